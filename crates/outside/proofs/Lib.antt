@@ -2,3 +2,5 @@
 pub mod Absent
 pub mod Gaining
 pub mod Held
+pub mod Lexing
+pub mod Runs
