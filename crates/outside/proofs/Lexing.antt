@@ -65,7 +65,7 @@ passes_comment text (b ∷ bs) after n follows some semicolon is line =
     let e : after ≡ bs = is ∙ tail_of b bs in
     let f : n ≡ length (line_of bs) = line ∙ ap (λ l. length (line_of l)) e in
     let g : FollowsBlanks (b ∷ bs) (drop n after) = subst (λ c. FollowsBlanks (c ∷ bs) (drop n after)) (sym semicolon)
-        (subst (λ l. FollowsBlanks (59 ∷ bs) l) (sym (ap (λ m. drop m after) f ∙ ap (λ l. drop (length (line_of bs)) l) e)) (follows_comment bs)) in
+    (subst (λ l. FollowsBlanks (59 ∷ bs) l) (sym (ap (λ m. drop m after) f ∙ ap (λ l. drop (length (line_of bs)) l) e)) (follows_comment bs)) in
     let h : take (length after - n) (drop n after) ≡ drop n after = take_all (length after - n) (drop n after) (omega (arith, length-drop n after)) in
     subst (λ l. FollowsBlanks text l) (sym h) (follows_more text (b ∷ bs) (drop n after) follows g)
 
@@ -91,10 +91,11 @@ pub digit_taken : (value next : ℕ) (rest after : List ℕ) → 1 ≤ length re
 digit_taken value next [] after some digit is cut = absurd (omega arith)
 digit_taken value next (b ∷ bs) after some digit is cut =
     let e : after ≡ bs = cut ∙ tail_of b bs in
-    let f : digits_of (b ∷ bs) ≡ b ∷ digits_of bs = take_while-yes is_ascii_digit b bs digit in
-    (ap (λ l. min (digits_value next (digits_of l)) (2 ^ 64 - 1)) e ∙ same_capped next (10 * value + (b - 48)) (digits_of bs) (omega (arith, is))
-    ∙ ap (λ l. min (digits_value value l) (2 ^ 64 - 1)) (sym f),
-    ap (λ l. drop (length (digits_of l)) l) e ∙ ap (λ l. drop (length l) (b ∷ bs)) (sym f))
+    let f : digits_of (b ∷ bs) ≡ b ∷ digits_of bs = take_while-yes is_ascii_digit b bs digit in (
+      ap (λ l. min (digits_value next (digits_of l)) (2 ^ 64 - 1)) e ∙ same_capped next (10 * value + (b - 48)) (digits_of bs) (omega (arith, is))
+          ∙ ap (λ l. min (digits_value value l) (2 ^ 64 - 1)) (sym f),
+      ap (λ l. drop (length (digits_of l)) l) e ∙ ap (λ l. drop (length l) (b ∷ bs)) (sym f),
+    )
 
 -- the token that begins with a digit
 pub token_of-digit : (bytes : List ℕ) → 1 ≤ length bytes → is_ascii_digit (get_or bytes 0 0) ≡ true
@@ -114,17 +115,20 @@ dashed-digit (b ∷ bs) some digit =
 -- a token is within the text
 dashed_size-le : (bs : List ℕ) → dashed_size bs ≤ length bs
 dashed_size-le [] = omega arith
-dashed_size-le (b ∷ bs) = elim (is_ascii_digit b) as (λ t. (if t then suc (length (digits_of bs)) else if b == 62 then 1 else 0) ≤ suc (length bs))
-    [ true ↦ omega (arith, length-take_while-le is_ascii_digit bs)
-    | false ↦ elim (b == 62) as (λ t. (if t then 1 else 0) ≤ suc (length bs)) [ true ↦ omega arith | false ↦ omega arith ] ]
+dashed_size-le (b ∷ bs) = elim (is_ascii_digit b) as (λ t. (if t then suc (length (digits_of bs)) else if b == 62 then 1 else 0) ≤ suc (length bs)) [
+  | true ↦ omega (arith, length-take_while-le is_ascii_digit bs)
+  | false ↦ elim (b == 62) as (λ t. (if t then 1 else 0) ≤ suc (length bs)) [ true ↦ omega arith | false ↦ omega arith ]
+]
 
 size_behind-le : (b : ℕ) (bs : List ℕ) → size_behind b bs ≤ length bs
-size_behind-le b bs = elim (is_ascii_digit b) as (λ t. (if t then length (digits_of bs) else if b == 45 then dashed_size bs else if is_ascii_alphabetic b then length (letters_of bs) else 0) ≤ length bs)
-    [ true ↦ length-take_while-le is_ascii_digit bs
-    | false ↦ elim (b == 45) as (λ t. (if t then dashed_size bs else if is_ascii_alphabetic b then length (letters_of bs) else 0) ≤ length bs)
-    [ true ↦ dashed_size-le bs
+size_behind-le b bs = elim (is_ascii_digit b) as (λ t. (if t then length (digits_of bs) else if b == 45 then dashed_size bs else if is_ascii_alphabetic b then length (letters_of bs) else 0) ≤ length bs) [
+  | true ↦ length-take_while-le is_ascii_digit bs
+  | false ↦ elim (b == 45) as (λ t. (if t then dashed_size bs else if is_ascii_alphabetic b then length (letters_of bs) else 0) ≤ length bs) [
+    | true ↦ dashed_size-le bs
     | false ↦ elim (is_ascii_alphabetic b) as (λ t. (if t then length (letters_of bs) else 0) ≤ length bs)
-    [ true ↦ length-take_while-le is_ascii_alphabetic bs | false ↦ omega arith ] ] ]
+        [ true ↦ length-take_while-le is_ascii_alphabetic bs | false ↦ omega arith ]
+  ]
+]
 
 -- the tokens of a text that stands at one
 tokens_at-token : (place : ℕ) (b : ℕ) (bs : List ℕ) → is_blank b ≡ false → (b == 59) ≡ false
@@ -176,8 +180,8 @@ lexes s rest behind token follows stands is cut =
     let all : s.place + (length s.rest - length rest) + length rest ≡ s.place + length s.rest = omega arith in
     record {
       tokens = follows.tokens s.place ∙ tokens_at-front (s.place + (length s.rest - length rest)) rest stands
-      ∙ ap (λ t. listed (s.place + (length s.rest - length rest)) t (tokens_behind 0 (s.place + (length s.rest - length rest) + size_of rest) (drop (size_of rest) rest))) (sym is)
-      ∙ ap (λ ts. listed (s.place + (length s.rest - length rest)) token ts) (sym ts);
+          ∙ ap (λ t. listed (s.place + (length s.rest - length rest)) t (tokens_behind 0 (s.place + (length s.rest - length rest) + size_of rest) (drop (size_of rest) rest))) (sym is)
+          ∙ ap (λ ts. listed (s.place + (length s.rest - length rest)) token ts) (sym ts);
       later = omega arith;
       behind = same ∙ ap (λ k. further k s) (sym m);
       end = subst (λ t. IfNone t (s.place + (length s.rest - length rest) ≡ s.place + length s.rest)) (sym is) (end_at _ _ rest all);
