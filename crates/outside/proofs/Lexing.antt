@@ -1,5 +1,5 @@
 -- What a lexer passes over and reads, step by step.
-use Rattle.std.proofs.Common.{◌≡◌, ◌≢◌, ℕ, zero, suc, ◌+◌, ◌-◌, ◌*◌, ◌^◌, ◌<◌, ◌≤◌, min, List, [], ◌∷◌, length, take, drop, get_or, Bool, true, false, ◌&&◌, ◌||◌, ◌==◌, eqb, not, if◌then◌else◌, refl, ap, ◌∙◌, sym, arith, length-drop, take_while, Option, Some, None, IfNone, subst}
+use Rattle.std.proofs.Common.{◌≡◌, ℕ, zero, suc, ◌+◌, ◌-◌, ◌*◌, ◌^◌, ◌<◌, ◌≤◌, min, List, [], ◌∷◌, length, take, drop, get_or, true, false, ◌==◌, not, if◌then◌else◌, refl, ap, ◌∙◌, sym, arith, length-drop, Option, Some, IfNone, subst}
 use Rattle.std.proofs.lemmas.List.{take_all, drop-drop}
 use Rattle.std.proofs.lemmas.Bool.{ne_eqb}
 use Rattle.std.specs.Char.{is_ascii_digit, is_ascii_alphabetic}

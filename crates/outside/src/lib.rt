@@ -14,3 +14,6 @@ pub use memory::{MemFiles, MemSink};
 pub use quiet::{OpenGate, QuietFiles, QuietSink};
 pub use real::{RealFiles, RealSink};
 pub use whole::{ReadFault, put_number, read_whole, send_all};
+
+#[cfg(test)]
+mod tests;

@@ -1,5 +1,5 @@
 use Rattle.std.proofs.Common.{refl, ◌∙◌, sym, ap, min, ◌≡◌, ◌-◌, ◌^◌, arith}
-use Rattle.outside.specs.Tokens.{digits_value, digits_of}
+use Rattle.outside.specs.Tokens.{digits_value}
 use Rattle.outside.proofs.Lexing.{digit_taken, no_digits, no_digits_left}
 use Rattle.outside.proofs.lexer.digits.Goals as goal
 

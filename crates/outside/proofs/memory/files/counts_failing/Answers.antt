@@ -1,4 +1,4 @@
-use Rattle.std.proofs.Common.{◌+◌, ◌<◌, ◌^◌, arith, sym}
+use Rattle.std.proofs.Common.{◌+◌, arith, sym}
 use Rattle.outside.proofs.Absent.{not_among}
 use Rattle.outside.proofs.memory.files.counts_failing.Goals as goal
 
