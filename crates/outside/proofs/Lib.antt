@@ -1,0 +1,6 @@
+-- Lemmas by topic.
+pub mod Absent
+pub mod Gaining
+pub mod Held
+pub mod Lexing
+pub mod Runs
