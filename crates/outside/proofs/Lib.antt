@@ -4,3 +4,4 @@ pub mod Gaining
 pub mod Held
 pub mod Lexing
 pub mod Runs
+pub mod ScanningLemmas

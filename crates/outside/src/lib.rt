@@ -2,6 +2,7 @@
 #![tactic(auto)]
 
 mod ends;
+mod laws;
 mod lexer;
 mod memory;
 mod quiet;
@@ -9,6 +10,7 @@ mod real;
 mod whole;
 
 pub use ends::{Failed, Files, Gate, Sink};
+pub use laws::tokens_by_byte;
 pub use lexer::{Lexer, Token};
 pub use memory::{MemFiles, MemSink};
 pub use quiet::{OpenGate, QuietFiles, QuietSink};
