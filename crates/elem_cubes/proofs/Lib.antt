@@ -1,0 +1,5 @@
+pub mod Tests
+pub mod Bits
+pub mod Keeping
+pub mod Words
+pub mod Uppers
