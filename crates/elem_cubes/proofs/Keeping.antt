@@ -59,20 +59,20 @@ module _ (ends : List ℤ) (len axes : ℕ) (q : List Factor) (k : KeepsCell end
   pub lower_kept : take len ends ≡ lower_of q
   lower_kept = sym (lower-cell_of (take len ends) axes) ∙ ap lower_of e
 
-  small : axes < 2 ^ length (take len ends)
-  small = rw k.long k.few
+  pub axes_small : axes < 2 ^ length (take len ends)
+  axes_small = rw k.long k.few
 
   pub axes_kept : axes ≡ axes_of q
-  axes_kept = sym (axes-cell_of (take len ends) axes small) ∙ ap axes_of e
+  axes_kept = sym (axes-cell_of (take len ends) axes axes_small) ∙ ap axes_of e
 
   pub parts_kept : q ≡ cell_of (lower_of q) axes
   parts_kept = sym e ∙ ap (λ ls. cell_of ls axes) lower_kept
 
   pub dimension_kept : count_ones axes ≡ dimension_of q
-  dimension_kept = ones_are_intervals (take len ends) axes small ∙ ap dimension_of e
+  dimension_kept = ones_are_intervals (take len ends) axes axes_small ∙ ap dimension_of e
 
   pub full_kept : eqb axes (2 ^ len - 1) ≡ list_all is_wide q
-  full_kept = ap (λ n. eqb axes (2 ^ n - 1)) (sym k.long) ∙ all_wide (take len ends) axes small ∙ ap (list_all is_wide) e
+  full_kept = ap (λ n. eqb axes (2 ^ n - 1)) (sym k.long) ∙ all_wide (take len ends) axes axes_small ∙ ap (list_all is_wide) e
 
   pub wide_kept : (i : ℕ) (d : Factor) → i < length q → eqb (bit_at axes i) 1 ≡ is_wide (get_or q i d)
   wide_kept i d h = wide_at (take len ends) axes i d (omega (arith, k.long, len_kept)) ∙ ap (λ t. is_wide (get_or t i d)) e
@@ -91,7 +91,7 @@ module _ (ends : List ℤ) (len axes : ℕ) (q : List Factor) (k : KeepsCell end
       let t : take len (set ends i l) ≡ set ls i l = take-set-lt len ends i l small in
       let n : length (set ls i l) ≡ length ls = length-set ls i l in
       let pad : set ends i l ≡ set ls i l ++ replicate (MAX_EMBEDDING - length ls) PADDING =
-          ap (λ es. set es i l) k.rest ∙ set-append_left ls (replicate (MAX_EMBEDDING - length ls) PADDING) i l (omega (arith, k.long)) in
+      ap (λ es. set es i l) k.rest ∙ set-append_left ls (replicate (MAX_EMBEDDING - length ls) PADDING) i l (omega (arith, k.long)) in
       let all : IsTrue (list_all is_factor (set (cell_of ls axes) i f)) = all_set is_factor (cell_of ls axes) i f (all_factors (cell_of ls axes) k.cell) fits in
       let P : ℕ → Type 0 = λ m. IsTrue (has_length m) in
       let m : length (set (cell_of ls axes) i f) ≡ length (cell_of ls axes) = length-set (cell_of ls axes) i f in

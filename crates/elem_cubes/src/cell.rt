@@ -278,9 +278,7 @@ fn upper_ends(ends: &[i32; MAX_EMBEDDING], axes: u8) -> [i32; MAX_EMBEDDING]
     let mut uppers = *ends;
     let mut rest = axes;
     for i in 0..MAX_EMBEDDING {
-        if rest % 2 == 1 {
-            uppers[i] = ends[i] + 1;
-        }
+        uppers[i] = ends[i] + i32::from(rest % 2);
         rest /= 2;
     }
     uppers

@@ -18,7 +18,7 @@ invariant_of-result c =
     let small : i < len = omega (arith, c.requires.axis) in
     let wide : len ≤ 8 = omega arith in
     rw (to_z-of_z w32 c.args.end c.ranges.end) (set_kept ends len axes c.args.self.now c.self.invariant c.self.view_is (bit_or c.self.inside.axes (1 * 2 ^ c.args.i % 2 ^ 8)) i c.args.end (interval c.args.end) small (interval_few c.self.inside.len c.self.inside.axes c.args.i c.self.invariant.few small wide) c.requires.fits
-        (interval_set (take len ends) axes i c.args.end (omega (arith, c.self.invariant.long)) (omega (arith, c.self.invariant.long))))
+    (interval_set (take len ends) axes i c.args.end (omega (arith, c.self.invariant.long)) (omega (arith, c.self.invariant.long))))
 
 pub returns : goal.returns
 returns c =
@@ -30,4 +30,4 @@ returns c =
     let m = not_many c.args.self.now (cell_kept ends len axes c.args.self.now c.self.invariant c.self.view_is) in
     let small : i < len = omega (arith, c.requires.axis) in
     rw (to_z-of_z w32 c.args.end c.ranges.end) (set_seen ends len axes c.args.self.now c.self.invariant c.self.view_is (bit_or c.self.inside.axes (1 * 2 ^ c.args.i % 2 ^ 8)) i c.args.end (interval c.args.end) small
-        (interval_set (take len ends) axes i c.args.end (omega (arith, c.self.invariant.long)) (omega (arith, c.self.invariant.long))))
+    (interval_set (take len ends) axes i c.args.end (omega (arith, c.self.invariant.long)) (omega (arith, c.self.invariant.long))))
