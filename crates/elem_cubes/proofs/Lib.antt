@@ -1,0 +1,13 @@
+pub mod Tests
+pub mod Bits
+pub mod Keeping
+pub mod Words
+pub mod Uppers
+pub mod Uses
+pub mod FaceLemmas
+pub mod Making
+pub mod Walking
+pub mod Choosing
+pub mod Modular
+pub mod Boundaries
+pub mod Signs
