@@ -78,23 +78,16 @@ impl<'a> Lexer<'a> {
 fn is_blank(b: u8) -> bool
     ensures { result ≡ is_blank b }
 {
-    b == b' ' || b == b'\t' || b == b'\r' || b == b'\n' || b == b','
+    matches!(b, b' ' | b'\t' | b'\r' | b'\n' | b',')
 }
 
 fn is_mark(b: u8) -> bool
     ensures { result ≡ is_mark b }
 {
-    b == b'('
-        || b == b')'
-        || b == b'['
-        || b == b']'
-        || b == b'{'
-        || b == b'}'
-        || b == b':'
-        || b == b'#'
-        || b == b'='
-        || b == b'*'
-        || b == b'+'
+    matches!(
+        b,
+        b'(' | b')' | b'[' | b']' | b'{' | b'}' | b':' | b'#' | b'=' | b'*' | b'+'
+    )
 }
 
 // How many bytes there are up to the next line feed.
