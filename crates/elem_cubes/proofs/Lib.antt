@@ -14,3 +14,4 @@ pub mod Signs
 pub mod Members
 pub mod Zeros
 pub mod Listing
+pub mod Ranges

@@ -1,5 +1,5 @@
 //! Coordinates as they are kept: padded to one length, and read two at a time.
-ghost use Rattle.std.specs.Prelude.{◌≡◌, ◌≤◌, ◌&&◌, length};
+ghost use Rattle.std.specs.Prelude.{◌≡◌, ◌≤◌, length};
 ghost use Rattle.std.specs.List.{list_all};
 ghost use Rattle.elem_cubes.specs.Corners.{is_end, is_corner};
 ghost use Rattle.elem_cubes.specs.Packed.{padded, word, words_of};
