@@ -1,0 +1,4 @@
+pub mod TermLists
+pub mod Dependent
+pub mod Boundary
+pub mod Faults
