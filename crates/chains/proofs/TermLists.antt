@@ -277,3 +277,6 @@ pub term_at : (p : ℕ) (ts us : List (ℕ × ℕ)) (i : ℕ) → ts ≡ us → 
 term_at p ts us i same h l =
     let n = named_at p 0 (2 ^ 32) us i h l in
     subst (λ (vs : List (ℕ × ℕ)). (0 < (get_or vs i (0, 0)).1) × ((get_or vs i (0, 0)).1 < p) × (coefficient us (get_or vs i (0, 0)).0 ≡ (get_or vs i (0, 0)).1)) (sym same) (n.1, number_at p 0 (2 ^ 32) us i h l, n.2)
+
+pub number_below : (p : ℕ) (ts us : List (ℕ × ℕ)) (i : ℕ) → ts ≡ us → IsNormal p us → i < length ts → (get_or ts i (0, 0)).1 < p
+number_below p ts us i same h l = number_at p 0 (2 ^ 32) ts i (rw same h) l

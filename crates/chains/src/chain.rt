@@ -48,7 +48,19 @@ impl<const P: u16> Chain<P> {
         ensures sum { IfOk result (λ c. (g : ℕ) → coefficient c g ≡ coefficient terms.now g % P) }
     {
         let mut unordered: Terms = SmallVec::from_slice(alloc, terms)?;
-        let terms = sum_terms(alloc, field, unordered.as_mut_slice())?;
+        Chain::sum(alloc, field, unordered.as_mut_slice())
+    }
+
+    /// The same, by an order of the terms in place.
+    pub(crate) fn sum(
+        alloc: Global,
+        field: Field<P>,
+        terms: &mut [(u32, u16)],
+    ) -> Result<Self, AllocError>
+        ensures normal { IfOk result (IsNormal P) }
+        ensures sum { IfOk result (λ c. (g : ℕ) → coefficient c g ≡ coefficient terms.old g % P) }
+    {
+        let terms = sum_terms(alloc, field, terms)?;
         Ok(Chain { terms })
     }
 

@@ -1,21 +1,16 @@
-use Rattle.std.proofs.Common.{rules, ◌≡◌, ◌≢◌, ℕ, ◌+◌, ◌*◌, ◌%◌, ◌<◌, ◌≤◌, ◌^◌, List, [], length, IfOk, OnOk, IfErr, IfSome, IfNone, slice_index, slice_index_or, vec_len, ◌-◌, ◌/◌, Bool, true, false, nat_eq, nat_lt, ◌∷◌, ◌++◌, slice_set, bit_and, bit_or, Fits, w8, w32, w64, Bor, MutBor}
-use Rattle.field_mod.specs.Modular.{Same}
-use Rattle.chains.specs.Terms.{coefficient, IsNormal}
-use Rattle.chains.specs.ChainComplex.{boundary, incidence, IsMisplaced, IsFirstAt, IsComplex, IsFirst, IsBadDegree, IsNotZero}
+use Rattle.std.proofs.Common.{arith}
+use Rattle.chains.proofs.TermLists.{number_below}
+use Rattle.chains.proofs.Boundary.{scaled_none, scaled_more, scaled_end}
 use Rattle.chains.proofs.complex.push_scaled.Goals as goal
 
--- src/complex.rt:161:5
 pub loop-generator-init : goal.loop-generator-init
-loop-generator-init g c = ?
+loop-generator-init g c = λ h. scaled_none _ _ h _ c.terms-generator-items.result.now
 
--- src/complex.rt:162:36
 pub mul-requires : goal.mul-requires
-mul-requires g c = ?
+mul-requires g c = ((omega arith), (c.requires, number_below _ _ _ _ c.terms-generator-items.ensures.value c.terms-generator-items.ensures.normal c.loop-generator-test.true))
 
--- src/complex.rt:161:5
 pub loop-generator-preserved : goal.loop-generator-preserved
-loop-generator-preserved g c = ?
+loop-generator-preserved g c = λ h. scaled_more _ _ _ _ h _ _ _ _ c.loop-generator-test.true c.in_ok-push.ensures.ok c.mul.ensures.value (c.loop-generator.invariant h)
 
--- src/complex.rt:152:1
 pub returns : goal.returns
-returns g c = ?
+returns g c = λ h. scaled_end _ _ _ _ h _ _ _ c.loop-generator-test.false c.terms-generator-items.ensures.value (c.loop-generator.invariant h)
