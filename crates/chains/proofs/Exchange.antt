@@ -30,9 +30,9 @@ fills_at p m n y a z w c solves spans =
     let e2 = total-same n (λ j. y j * (t j + c j)) (λ j. y j * t j + y j * c j) (λ j q. omega arith) in
     let e3 = total-add n (λ j. y j * t j) (λ j. y j * c j) in
     let e5 : total n (λ j. y j * t j) ≡ total m (λ i. total n (λ j. y j * a i j) * z i) =
-        total-same n (λ j. y j * t j) (λ j. total m (λ i. y j * (a i j * z i))) (λ j q. sym (total-scale m (y j) (λ i. a i j * z i)))
-        ∙ total-swap n m (λ j i. y j * (a i j * z i))
-        ∙ total-same m (λ i. total n (λ j. y j * (a i j * z i))) (λ i. total n (λ j. y j * a i j) * z i) (λ i q. total-same n (λ j. y j * (a i j * z i)) (λ j. z i * (y j * a i j)) (λ j q. omega arith) ∙ total-scale n (z i) (λ j. y j * a i j) ∙ mul_comm (z i) (total n (λ j. y j * a i j))) in
+    total-same n (λ j. y j * t j) (λ j. total m (λ i. y j * (a i j * z i))) (λ j q. sym (total-scale m (y j) (λ i. a i j * z i)))
+    ∙ total-swap n m (λ j i. y j * (a i j * z i))
+    ∙ total-same m (λ i. total n (λ j. y j * (a i j * z i))) (λ i. total n (λ j. y j * a i j) * z i) (λ i q. total-same n (λ j. y j * (a i j * z i)) (λ j. z i * (y j * a i j)) (λ j q. omega arith) ∙ total-scale n (z i) (λ j. y j * a i j) ∙ mul_comm (z i) (total n (λ j. y j * a i j))) in
     let e6 : Same p (total m (λ i. total n (λ j. y j * a i j) * z i)) (total m (λ i. 0 * z i)) = total_same p m (λ i. total n (λ j. y j * a i j) * z i) (λ i. 0 * z i) (λ i q. same-mul (solves i q) (same_refl p (z i))) in
     let e7 = total-same m (λ i. 0 * z i) (λ i. 0) (λ i q. omega arith) in
     let e8 = total-zero m in
