@@ -5,7 +5,7 @@ use Rattle.field_mod.specs.Sums.{total}
 use Rattle.field_mod.specs.Modular.{Same, IsField}
 use Rattle.field_mod.proofs.Sums.{total-same, total-zero, total-add, total-scale, total-swap, total_same}
 use Rattle.field_mod.proofs.Modular.{same_by, same_refl, same_sym, same_trans, same-add, same-scale, same-mul}
-use Rattle.chains.specs.Homology.{System, IsChain, IsNull, IsBasis, combination, IsBoundaryOperator}
+use Rattle.chains.specs.Homology.{System, IsChain, IsBasis, combination, IsBoundaryOperator}
 use Rattle.chains.proofs.Dependent.{solve}
 use Rattle.chains.proofs.Systems.{chain-zero, chain-combination}
 

@@ -1,8 +1,8 @@
 -- The boundary of a numbered complex: linear, and of generators of one degree more
-use Rattle.std.proofs.Common.{◌≡◌, ℕ, ◌+◌, ◌*◌, ◌<◌, refl, sym, ap, ◌∙◌, arith, ⊎_elim, List, [], length, get_or, true}
+use Rattle.std.proofs.Common.{◌≡◌, ℕ, ◌+◌, ◌*◌, ◌<◌, sym, ap, ◌∙◌, arith, ⊎_elim, List, length, get_or}
 use Rattle.std.proofs.lemmas.Bool.{cases_eq, cases_lt, lt-ltb}
 use Rattle.field_mod.specs.Sums.{total}
-use Rattle.field_mod.specs.Modular.{Same, IsField}
+use Rattle.field_mod.specs.Modular.{IsField}
 use Rattle.field_mod.proofs.Sums.{total-same, total-scale, total-swap, total_same}
 use Rattle.field_mod.proofs.Modular.{same_by, same_refl, same-mul}
 use Rattle.chains.specs.Homology.{IsBoundaryOperator}

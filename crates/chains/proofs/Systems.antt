@@ -1,7 +1,6 @@
 -- Chains of any complex: what sums, multiples and combinations keep, and fillings of the next degree
 use Rattle.std.proofs.Common.{◌≡◌, ◌≢◌, ℕ, zero, suc, ◌+◌, ◌*◌, ◌<◌, ◌%◌, refl, sym, ap, ◌∙◌, arith, ⊎_elim, true, false, cond, eqb, eq-eqb, ne_eqb}
 use Rattle.std.proofs.lemmas.Bool.{cases_eq}
-use Rattle.field_mod.specs.Sums.{total}
 use Rattle.field_mod.specs.Modular.{Same}
 use Rattle.field_mod.proofs.Modular.{same_by, same_refl, same_sym, same_trans, same-add, same-scale}
 use Rattle.chains.specs.Homology.{System, IsChain, IsBoundaryOf, IsCycle, IsNull, combination, IsBoundaryOperator}

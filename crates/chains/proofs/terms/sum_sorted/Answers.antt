@@ -1,4 +1,4 @@
-use Rattle.std.proofs.Common.{ℕ, ◌<◌, ◌^◌, get_or, arith, refl, rules, mod-lt, ap, ◌∙◌}
+use Rattle.std.proofs.Common.{ℕ, ◌<◌, ◌^◌, get_or, arith, refl, mod-lt, ap, ◌∙◌}
 use Rattle.field_mod.proofs.Table.{two_le}
 use Rattle.chains.proofs.Summing.{sum_start, sum_more, sum_next, sum_end}
 use Rattle.chains.proofs.terms.sum_sorted.Goals as goal
