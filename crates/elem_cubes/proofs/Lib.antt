@@ -1,0 +1,17 @@
+pub mod Conjunctions
+pub mod Bits
+pub mod Keeping
+pub mod Words
+pub mod Uppers
+pub mod Uses
+pub mod FaceLemmas
+pub mod Making
+pub mod Walking
+pub mod Choosing
+pub mod Modular
+pub mod Boundaries
+pub mod Signs
+pub mod Members
+pub mod Zeros
+pub mod Listing
+pub mod Ranges
