@@ -28,7 +28,8 @@ Says old new before now line = Gains old new line ⊎ (GainsFront old new line �
 -- What a fault rests on that came up while files of these names were loaded: a failed read on the count of its file,
 -- which was to be read next; too long a file on the bytes given; want of memory on nothing; and each but the last, where the
 -- files are told, on being the first. No other fault comes up there.
-abbrev pub LoadRestsOn : {A : Type 0} → List (List ℕ) → (Reading → Result A Fault) → Option Disk → (List ℕ → ℕ) → (List ℕ → ℕ) → ℕ → ℕ → Fault → Type 0
+abbrev pub LoadRestsOn : {A : Type 0} → List (List ℕ) → (Reading → Result A Fault) → Option Disk
+    → (List ℕ → ℕ) → (List ℕ → ℕ) → ℕ → ℕ → Fault → Type 0
 LoadRestsOn names load disk before now had has (CannotRead name) = Contains names name × Rose (before name) (now name)
     × IfSome disk (λ disk. load (but_for name (reading disk)) ≡ Err (CannotRead name))
 LoadRestsOn names load disk before now had has (Limit count number) = (more had (number + 1) ≤ has)
@@ -62,4 +63,5 @@ ReadFailed words before now = (command : Command) × (command_of words ≡ Ok co
 -- the place of done a write that failed, and want of memory.
 abbrev pub Answers : {A : Type 0} → Result A Fault → Type 0 → Type 0 → Status → Type 0
 Answers (Err fault) read wrote status = (status ≡ status_of fault) ⊎ ((status ≡ statuses.Read) × read) ⊎ (status ≡ statuses.NoMemory)
-Answers (Ok input) read wrote status = (status ≡ statuses.Done) ⊎ ((status ≡ statuses.Read) × read) ⊎ ((status ≡ statuses.Write) × wrote) ⊎ (status ≡ statuses.NoMemory)
+Answers (Ok input) read wrote status = (status ≡ statuses.Done) ⊎ ((status ≡ statuses.Read) × read)
+    ⊎ ((status ≡ statuses.Write) × wrote) ⊎ (status ≡ statuses.NoMemory)

@@ -4,8 +4,8 @@ use elem_cubes::Cell;
 use indexmap::IndexSet;
 use std::alloc::{AllocError as NoMemory, Global};
 
-/// The cells of full cubes: the faces of each cube, by the cubes in their order. A cube that comes later has a face that
-/// is new, so few columns of the boundary have to be reduced.
+/// The cells of full cubes: the faces of each cube, by the cubes in their order. A cube that comes later has a face
+/// that is new, so few columns of the boundary have to be reduced.
 pub fn cells_of(alloc: Global, cubes: &Cubes) -> Result<IndexSet<Cell>, NoMemory> {
     let mut corners = cubes.corners().to_vec(alloc)?;
     corners.sort_unstable();

@@ -40,7 +40,8 @@ pub fn command_of(alloc: Global, words: &[String]) -> Result<Command, Fault>
 
 /// What the files give that the words name.
 pub fn load<F: Files>(alloc: Global, files: &mut F, command: &Command) -> Result<Input, Fault>
-    ensures input { IfOk result (λ input. IfSome (F.holds files.old) (λ disk. input_of command.now (reading disk) ≡ Ok input)) }
+    ensures input { IfOk result (λ input. IfSome (F.holds files.old)
+        (λ disk. input_of command.now (reading disk) ≡ Ok input)) }
     ensures fault { IfErr result (LoadRestsOn (names_of command.now) (input_of command.now) (F.holds files.old)
         (F.read_faults files.old) (F.read_faults files.new) (F.given files.old) (F.given files.new)) }
     ensures given { F.given files.new ≤ F.given files.old + (file_bytes + 1) }

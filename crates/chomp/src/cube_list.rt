@@ -27,7 +27,8 @@ pub fn grammar_is_function(bytes: &[u8])
 
 // The cubes that the tokens list.
 fn listed(alloc: Global, mut lexer: Lexer<'_>) -> Result<Option<Vec<Corner>>, NoMemory>
-    ensures { IfOk result (λ found. option_map (λ cubes. cubes.items) found ≡ cubes_from 0 None (lexemes_at lexer.entry)) }
+    ensures { IfOk result (λ found. option_map (λ cubes. cubes.items) found
+        ≡ cubes_from 0 None (lexemes_at lexer.entry)) }
 {
     let mut cubes = Vec::new(alloc);
     let mut known = 0;
@@ -79,7 +80,8 @@ fn closed(entries: &[i32], known: usize) -> Option<Corner>
 // The corner whose bracket was read.
 fn rest_of_corner(lexer: &mut Lexer<'_>, known: usize) -> Option<Corner>
     ensures corner { MatchOption result (cubes_from known (Some []) (lexemes_at lexer.old) ≡ None)
-        (λ corner. cubes_from known (Some []) (lexemes_at lexer.old) ≡ option_map (λ cubes. corner ∷ cubes) (cubes_from (length corner) None (lexemes_at lexer.new))) }
+        (λ corner. cubes_from known (Some []) (lexemes_at lexer.old)
+        ≡ option_map (λ cubes. corner ∷ cubes) (cubes_from (length corner) None (lexemes_at lexer.new))) }
     ensures shorter { IfSome result (λ _. length (lexemes_at lexer.new) ≤ length (lexemes_at lexer.old)) }
 {
     let mut entries = [0; MAX_EMBEDDING];

@@ -18,7 +18,8 @@ pub fn deliver<O: Sink, E: Sink>(text: &[u8], out: &mut O, err: &mut E) -> Statu
     ensures quiet { result ≡ Status.Done → Gains (E.written err.old) (E.written err.new) [] }
     ensures front { result ≡ Status.Write → GainsFront (O.written out.old) (O.written out.new) text.now }
     ensures rose { result ≡ Status.Write → Rose (O.faults out.old) (O.faults out.new) }
-    ensures line { result ≡ Status.Write → Says (E.written err.old) (E.written err.new) (E.faults err.old) (E.faults err.new) (fault_text Fault.CannotWriteOut) }
+    ensures line { result ≡ Status.Write →
+        Says (E.written err.old) (E.written err.new) (E.faults err.old) (E.faults err.new) (fault_text Fault.CannotWriteOut) }
 {
     if send_all(out, text).is_ok() {
         return Status::Done;

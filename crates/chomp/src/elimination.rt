@@ -21,8 +21,8 @@ pub fn dimensions(alloc: Global, cubes: &Cubes) -> Result<Vec<u32>, NoMemory>
     Ok(dimensions)
 }
 
-// How many cells of that dimension end a cycle that bounds nothing. Those of one dimension more went before: the pivots of
-// their columns end cycles that bound.
+// How many cells of that dimension end a cycle that bounds nothing. Those of one dimension more went before: the
+// pivots of their columns end cycles that bound.
 fn count_cycles(
     alloc: Global,
     cells: &IndexSet<Cell>,
@@ -65,7 +65,8 @@ impl Columns {
             .is_some_and(|column| !column.is_empty())
     }
 
-    // Reduces a column by those that are kept, and keeps what is left of it, if anything is. Each turn lowers the pivot.
+    // Reduces a column by those that are kept, and keeps what is left of it, if anything is. Each turn lowers the
+    // pivot.
     fn keep(&mut self, alloc: Global, column: Vec<usize>) -> Result<bool, NoMemory> {
         let mut column = column;
         for _ in 0..=self.by_pivot.len() {

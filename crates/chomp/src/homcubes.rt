@@ -43,7 +43,8 @@ pub fn asked(alloc: Global, words: &[String]) -> Result<Job, Fault>
 
 /// What the file gives.
 pub fn load<F: Files>(alloc: Global, files: &mut F, job: &Job) -> Result<Given, Fault>
-    ensures x { IfOk result (λ given. IfSome (F.holds files.old) (λ disk. homcubes_input job.now (reading disk) ≡ Ok given)) }
+    ensures x { IfOk result (λ given. IfSome (F.holds files.old)
+        (λ disk. homcubes_input job.now (reading disk) ≡ Ok given)) }
     ensures fault { IfErr result (LoadRestsOn (job.now.x ∷ []) (homcubes_input job.now) (F.holds files.old)
         (F.read_faults files.old) (F.read_faults files.new) (F.given files.old) (F.given files.new)) }
     ensures given { F.given files.new ≤ F.given files.old + (file_bytes + 1) }

@@ -16,7 +16,8 @@ pub const FILE_BYTES: u64 = 67_108_864;
 
 /// The full cubes of a file.
 pub fn load_cubes<F: Files>(alloc: Global, files: &mut F, name: &Name) -> Result<Cubes, Fault>
-    ensures cubes { IfOk result (λ cubes. IfSome (F.holds files.old) (λ disk. cubes_in name.now (reading disk) ≡ Ok cubes)) }
+    ensures cubes { IfOk result (λ cubes. IfSome (F.holds files.old)
+        (λ disk. cubes_in name.now (reading disk) ≡ Ok cubes)) }
     ensures fault { IfErr result (LoadRestsOn (name.now ∷ []) (cubes_in name.now) (F.holds files.old)
         (F.read_faults files.old) (F.read_faults files.new) (F.given files.old) (F.given files.new)) }
     ensures given { F.given files.new ≤ F.given files.old + (file_bytes + 1) }
@@ -35,7 +36,8 @@ fn load_bytes<F: Files>(
     limit: u64,
 ) -> Result<Vec<u8>, Fault>
     requires { limit ≤ 2 ^ 30 }
-    ensures bytes { IfOk result (λ bytes. IfSome (F.holds files.old) (λ disk. reading disk limit name.now ≡ Ok bytes.items)) }
+    ensures bytes { IfOk result (λ bytes. IfSome (F.holds files.old)
+        (λ disk. reading disk limit name.now ≡ Ok bytes.items)) }
     ensures fault { IfErr result (LoadRestsOn (name.now ∷ []) (λ read. read limit name.now) (F.holds files.old)
         (F.read_faults files.old) (F.read_faults files.new) (F.given files.old) (F.given files.new)) }
     ensures given { F.given files.new ≤ F.given files.old + (limit + 1) }

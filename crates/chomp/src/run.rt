@@ -16,8 +16,8 @@ use report::{Fault, text};
 use std::alloc::Global;
 use std::thread::Threads;
 
-/// Reads what the words ask for, and writes the report to `out` or one line on a fault to `err`. The words are those after the
-/// program's name. All is read and computed before the first write. The runtime and the gate are not used yet.
+/// Reads what the words ask for, and writes the report to `out` or one line on a fault to `err`. The words are those
+/// after the program's name. All is read and computed before the first write. The runtime and the gate are not used yet.
 pub fn run<R: Threads, F: Files, O: Sink, E: Sink, G: Gate + Sync>(
     _rt: &R,
     alloc: Global,
@@ -28,26 +28,33 @@ pub fn run<R: Threads, F: Files, O: Sink, E: Sink, G: Gate + Sync>(
     _gate: &G,
 ) -> Status
     // Done: the whole text of a report was written, and nothing else.
-    ensures done { result ≡ Status.Done → (text : List ℕ) × IsAnswer (spoken words.now) (F.holds files.old) text × Gains (O.written out.old) (O.written out.new) text }
+    ensures done { result ≡ Status.Done → (text : List ℕ) × IsAnswer (spoken words.now) (F.holds files.old) text
+        × Gains (O.written out.old) (O.written out.new) text }
     ensures quiet { result ≡ Status.Done → Gains (E.written err.old) (E.written err.new) [] }
 
     // A failed write: a front of the text was written, its count rose, and the line says so.
-    ensures write { result ≡ Status.Write → (text : List ℕ) × IsAnswer (spoken words.now) (F.holds files.old) text × GainsFront (O.written out.old) (O.written out.new) text }
+    ensures write { result ≡ Status.Write → (text : List ℕ) × IsAnswer (spoken words.now) (F.holds files.old) text
+        × GainsFront (O.written out.old) (O.written out.new) text }
     ensures rose { result ≡ Status.Write → Rose (O.faults out.old) (O.faults out.new) }
-    ensures told { result ≡ Status.Write → Says (E.written err.old) (E.written err.new) (E.faults err.old) (E.faults err.new) (fault_text Fault.CannotWriteOut) }
+    ensures told { result ≡ Status.Write →
+        Says (E.written err.old) (E.written err.new) (E.faults err.old) (E.faults err.new) (fault_text Fault.CannotWriteOut) }
 
     // A fault before the writing: its status, what it rests on, its line, and nothing on `out`.
     ensures fault { result ≢ Status.Done → result ≢ Status.Write → (fault : Fault) × (result ≡ status_of fault)
-        × RestsOn (spoken words.now) (F.holds files.old) (F.read_faults files.old) (F.read_faults files.new) (F.given files.old) (F.given files.new) fault
+        × RestsOn (spoken words.now) (F.holds files.old)
+        (F.read_faults files.old) (F.read_faults files.new) (F.given files.old) (F.given files.new) fault
         × Says (E.written err.old) (E.written err.new) (E.faults err.old) (E.faults err.new) (fault_text fault)
         × Gains (O.written out.old) (O.written out.new) [] }
 
     // Words of no form are refused, whatever the files tell.
-    ensures words { IfErr (command_of (spoken words.now)) (λ fault. (result ≡ status_of fault) ⊎ (result ≡ Status.NoMemory)) }
+    ensures words { IfErr (command_of (spoken words.now))
+        (λ fault. (result ≡ status_of fault) ⊎ (result ≡ Status.NoMemory)) }
 
-    // The first refusal decides, or that there is none, but for a failed read or write that was counted and want of memory.
+    // The first refusal decides, or that there is none, but for a failed read or write that was counted, and want of
+    // memory.
     ensures exact { IfSome (F.holds files.old) (λ disk. Answers (judged (spoken words.now) (reading disk))
-        (ReadFailed (spoken words.now) (F.read_faults files.old) (F.read_faults files.new)) (Rose (O.faults out.old) (O.faults out.new)) result) }
+        (ReadFailed (spoken words.now) (F.read_faults files.old) (F.read_faults files.new))
+        (Rose (O.faults out.old) (O.faults out.new)) result) }
 
     // The files hold what they held, and no more bytes were read than may be.
     ensures holds { F.holds files.new ≡ F.holds files.old }
@@ -62,8 +69,10 @@ pub fn run<R: Threads, F: Files, O: Sink, E: Sink, G: Gate + Sync>(
 // The text of the report, or the first fault.
 fn answer<F: Files>(alloc: Global, words: &[String], files: &mut F) -> Result<Vec<u8>, Fault>
     ensures right { IfOk result (λ text. IsAnswer (spoken words.now) (F.holds files.old) text.items) }
-    ensures fault { IfErr result (RestsOn (spoken words.now) (F.holds files.old) (F.read_faults files.old) (F.read_faults files.new) (F.given files.old) (F.given files.new)) }
-    ensures words { IfErr (command_of (spoken words.now)) (λ fault. (result ≡ Err fault) ⊎ (result ≡ Err Fault.OutOfMemory)) }
+    ensures fault { IfErr result (RestsOn (spoken words.now) (F.holds files.old)
+        (F.read_faults files.old) (F.read_faults files.new) (F.given files.old) (F.given files.new)) }
+    ensures words { IfErr (command_of (spoken words.now))
+        (λ fault. (result ≡ Err fault) ⊎ (result ≡ Err Fault.OutOfMemory)) }
     ensures holds { F.holds files.new ≡ F.holds files.old }
     ensures given { F.given files.new ≤ F.given files.old + (file_bytes + 1) }
 {

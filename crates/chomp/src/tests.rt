@@ -173,3 +173,24 @@ fn whole_runs_answer_as_they_should(rt: HostRuntime) -> Result<(), Fail> {
     }
     Ok(())
 }
+
+#[test]
+fn the_limit_of_bytes_is_exact(rt: HostRuntime) -> Result<(), Fail> {
+    let alloc = rt.alloc();
+    for (bytes, wanted) in [(67_108_864, Status::Done), (67_108_865, Status::Limit)] {
+        let mut words = Vec::new(alloc);
+        words.push(String::from_str(alloc, "homcubes")?)?;
+        words.push(String::from_str(alloc, "long")?)?;
+        let mut held = Vec::new(alloc);
+        let name = String::from_str(alloc, "long")?;
+        held.push((name, vec![in alloc; b' '; bytes]?))?;
+        let mut files = MemFiles::of(alloc, held, Vec::new(alloc));
+        let mut out = MemSink::of(alloc, Vec::new(alloc), 1000);
+        let mut err = MemSink::of(alloc, Vec::new(alloc), 1000);
+        let status = run(
+            &rt, alloc, &words, &mut files, &mut out, &mut err, &OpenGate,
+        );
+        assert_eq!(rt; status, wanted);
+    }
+    Ok(())
+}
