@@ -1,0 +1,11 @@
+pub mod TermLists
+pub mod Merging
+pub mod Lookup
+pub mod Dotting
+pub mod Summing
+pub mod Dependent
+pub mod Boundary
+pub mod Faults
+pub mod Systems
+pub mod Exchange
+pub mod Numbered

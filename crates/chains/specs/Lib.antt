@@ -1,0 +1,5 @@
+pub mod Terms
+pub mod Homology
+pub mod ChainComplex
+pub mod Refusal
+pub mod Laws
