@@ -1,0 +1,3 @@
+pub mod RelativeComplex
+pub mod Numbering
+pub mod Laws
