@@ -14,6 +14,7 @@ use Rattle.elem_cubes.specs.Cells.{Factor, point, interval, dimension_of, same_c
 use Rattle.elem_cubes.specs.Faces.{IsFace}
 use Rattle.elem_cubes.specs.Boundary.{boundary_at, boundary_coefficient}
 use Rattle.elem_cubes.specs.Laws.{cell_at, BoundaryAtIsBoundary}
+use Rattle.cell_complex.specs.Boundaries.{unit_at}
 use Rattle.cell_complex.proofs.Tests.{cell_refl, cell_cases, face_refl}
 use Rattle.cell_complex.proofs.Cofaces.{exact, boundary_same, boundary-none, boundary-total}
 
@@ -41,25 +42,21 @@ pub either-none : (v : Bool) → ◌≡◌ {A = ℕ} (cond v 0 0) 0
 either-none true = refl
 either-none false = refl
 
--- 1 at the cell r
-abbrev pub at_cell : List Factor → List Factor → ℕ
-at_cell r s = cond (same_cell s r) 1 0
-
 -- what n cells, each once, carry to one of them
 pub spread : (n : ℕ) (at : ℕ → List Factor) (f : List Factor → ℕ) (s : List Factor)
     → ((i j : ℕ) → i < n → j < n → at i ≡ at j → i ≡ j)
-    → (((i : ℕ) × (i < n) × (at i ≡ s)) ⊎ (f s ≡ 0)) → total n (λ i. f (at i) * at_cell (at i) s) ≡ f s
+    → (((i : ℕ) × (i < n) × (at i ≡ s)) ⊎ (f s ≡ 0)) → total n (λ i. f (at i) * unit_at (at i) s) ≡ f s
 spread n at f s distinct (inl w) =
-    total-same n (λ i. f (at i) * at_cell (at i) s) (λ i. cond (eqb w.0 i) 1 0 * f (at i)) (λ i l. each i l)
+    total-same n (λ i. f (at i) * unit_at (at i) s) (λ i. cond (eqb w.0 i) 1 0 * f (at i)) (λ i l. each i l)
     ∙ total-single n w.0 1 (λ i. f (at i)) w.1 ∙ (let e = ap f w.2 in omega arith)
   where
-    each : (i : ℕ) → i < n → f (at i) * at_cell (at i) s ≡ cond (eqb w.0 i) 1 0 * f (at i)
+    each : (i : ℕ) → i < n → f (at i) * unit_at (at i) s ≡ cond (eqb w.0 i) 1 0 * f (at i)
     each i l = ⊎_elim
-        (λ e. let a : at_cell (at i) s ≡ 1 = ap (λ v. cond v 1 0) (ap (λ t. same_cell t (at i)) (sym w.2) ∙ ap (λ k. same_cell (at k) (at i)) e ∙ cell_refl (at i)) in let b : cond (eqb w.0 i) 1 0 ≡ 1 = ap (λ v. cond v 1 0) (eq-eqb w.0 i e) in let a2 = ap (λ v. f (at i) * v) a in let b2 = ap (λ v. v * f (at i)) b in omega arith)
-        (λ d. let b : cond (eqb w.0 i) 1 0 ≡ 0 = ap (λ v. cond v 1 0) (ne_eqb w.0 i d) in ⊎_elim (λ e. absurd (d (distinct w.0 i w.1 l (w.2 ∙ e)))) (λ k. let a : at_cell (at i) s ≡ 0 = ap (λ v. cond v 1 0) k in let a2 = ap (λ v. f (at i) * v) a in let b2 = ap (λ v. v * f (at i)) b in omega arith) (cell_cases s (at i)))
+        (λ e. let a : unit_at (at i) s ≡ 1 = ap (λ v. cond v 1 0) (ap (λ t. same_cell t (at i)) (sym w.2) ∙ ap (λ k. same_cell (at k) (at i)) e ∙ cell_refl (at i)) in let b : cond (eqb w.0 i) 1 0 ≡ 1 = ap (λ v. cond v 1 0) (eq-eqb w.0 i e) in let a2 = ap (λ v. f (at i) * v) a in let b2 = ap (λ v. v * f (at i)) b in omega arith)
+        (λ d. let b : cond (eqb w.0 i) 1 0 ≡ 0 = ap (λ v. cond v 1 0) (ne_eqb w.0 i d) in ⊎_elim (λ e. absurd (d (distinct w.0 i w.1 l (w.2 ∙ e)))) (λ k. let a : unit_at (at i) s ≡ 0 = ap (λ v. cond v 1 0) k in let a2 = ap (λ v. f (at i) * v) a in let b2 = ap (λ v. v * f (at i)) b in omega arith) (cell_cases s (at i)))
         (cases_eq w.0 i)
 spread n at f s distinct (inr z) =
-    total-same n (λ i. f (at i) * at_cell (at i) s) (λ i. 0) (λ i l. ⊎_elim (λ e. let a = ap f (sym e) ∙ z in ap (λ v. v * at_cell (at i) s) a ∙ omega arith) (λ k. ap (λ v. f (at i) * v) (ap (λ v. cond v 1 0) k) ∙ omega arith) (cell_cases s (at i)))
+    total-same n (λ i. f (at i) * unit_at (at i) s) (λ i. 0) (λ i l. ⊎_elim (λ e. let a = ap f (sym e) ∙ z in ap (λ v. v * unit_at (at i) s) a ∙ omega arith) (λ k. ap (λ v. f (at i) * v) (ap (λ v. cond v 1 0) k) ∙ omega arith) (cell_cases s (at i)))
     ∙ total-zero n ∙ sym z
 
 ends-none : (p : ℕ) (w a b : Bool) → a ≡ false → b ≡ false → cond w (cond a 1 0 + cond b (p - 1) 0) 0 + 0 ≡ 0
@@ -123,7 +120,7 @@ pick p false false true x e = omega arith
 pick p false false false x e = omega arith
 
 -- the coefficient of r in the boundary of q is the boundary, at r, of the chain that is 1 at q
-pub coefficient-boundary : (p : ℕ) (q r : List Factor) → boundary_coefficient p q r ≡ boundary_at p r (at_cell q)
+pub coefficient-boundary : (p : ℕ) (q r : List Factor) → boundary_coefficient p q r ≡ boundary_at p r (unit_at q)
 coefficient-boundary p [] [] = refl
 coefficient-boundary p [] (point m ∷ rs) = sym (ap (λ v. 0 + (p - 1) * 0 + v) (boundary-none p rs) ∙ omega arith)
 coefficient-boundary p [] (interval m ∷ rs) = sym (ap (λ v. (p - 1) * v) (boundary-none p rs) ∙ omega arith)
@@ -152,6 +149,6 @@ pub boundary_at_is_boundary : BoundaryAtIsBoundary
 boundary_at_is_boundary p cells c r distinct listed =
     let n = length cells in
     let at = cell_at cells in
-    let a = total-same n (λ i. c (at i) * boundary_coefficient p (at i) r) (λ i. c (at i) * boundary_at p r (at_cell (at i))) (λ i l. ap (λ v. c (at i) * v) (coefficient-boundary p (at i) r)) in
-    let b = boundary-total p r n (λ i. c (at i)) (λ i. at_cell (at i)) in
-    same_trans (exact p (a ∙ sym b)) (boundary_same p r (λ s. total n (λ i. c (at i) * at_cell (at i) s)) c (λ s k. exact p (spread n at c s distinct (⊎_elim (λ e. inr e) (λ d. inl (listed s k.0 d)) (cases_eq (c s) 0)))))
+    let a = total-same n (λ i. c (at i) * boundary_coefficient p (at i) r) (λ i. c (at i) * boundary_at p r (unit_at (at i))) (λ i l. ap (λ v. c (at i) * v) (coefficient-boundary p (at i) r)) in
+    let b = boundary-total p r n (λ i. c (at i)) (λ i. unit_at (at i)) in
+    same_trans (exact p (a ∙ sym b)) (boundary_same p r (λ s. total n (λ i. c (at i) * unit_at (at i) s)) c (λ s k. exact p (spread n at c s distinct (⊎_elim (λ e. inr e) (λ d. inl (listed s k.0 d)) (cases_eq (c s) 0)))))

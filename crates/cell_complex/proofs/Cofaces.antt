@@ -45,7 +45,7 @@ boundary-total p r (suc n) x f =
     boundary-add p r (λ s. x 0 * f 0 s) (λ s. total n (λ i. x (suc i) * f (suc i) s))
     ∙ (let a = boundary-scale p r (x 0) (f 0) in let k = boundary-total p r n (λ i. x (suc i)) (λ i. f (suc i)) in omega arith)
 
-neg_cancel : (p x : ℕ) → 1 ≤ p → x + (p - 1) * x ≡ p * x
+pub neg_cancel : (p x : ℕ) → 1 ≤ p → x + (p - 1) * x ≡ p * x
 neg_cancel zero x h = absurd (omega arith)
 neg_cancel (suc p) x h = let e : suc p - 1 ≡ p = omega arith in rw e (omega arith)
 

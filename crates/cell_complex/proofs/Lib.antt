@@ -5,3 +5,6 @@ pub mod Relative
 pub mod Matching
 pub mod Numbering
 pub mod ByCell
+pub mod Facets
+pub mod Sorting
+pub mod Collecting

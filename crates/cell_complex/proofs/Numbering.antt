@@ -15,16 +15,20 @@ use Rattle.elem_cubes.specs.Cells.{Factor, dimension_of, same_cell}
 use Rattle.elem_cubes.specs.Faces.{IsFace, IsFacet}
 use Rattle.elem_cubes.specs.Boundary.{boundary_at, boundary_coefficient}
 use Rattle.elem_cubes.specs.Laws.{cell_at}
-use Rattle.chains.specs.Homology.{System}
+use Rattle.chains.specs.Terms.{coefficient, IsNormal}
+use Rattle.chains.specs.Refusal.{IsRefusal}
+use Rattle.chains.specs.declared.complex.ComplexFault.{ComplexFault}
+use Rattle.chains.specs.declared.complex.ComplexFault.TheVariants.{BadDegree, NotZero, NoMemory}
 use Rattle.chains.proofs.TermLists.{coefficient-lt}
 use Rattle.chains.specs.ChainComplex.{ChainComplex, IsComplex, IsBadDegree, incidence, boundary, system}
 use Rattle.cell_complex.specs.RelativeComplex.{is_relative, restriction_to, complex_on, relative_complex}
-use Rattle.cell_complex.specs.Numbering.{IsListing, IsComplexOf, IsRelativeComplex, number_of}
+use Rattle.cell_complex.specs.Numbering.{IsListing, IsOfPair, IsComplexOf, IsRelativeComplex, number_of}
+use Rattle.cell_complex.specs.Boundaries.{unit_at, AreBoundaries}
 use Rattle.cell_complex.specs.Laws.{NumberedCellsAreComplex}
 use Rattle.cell_complex.proofs.Tests.{cell_refl, cell_true, cell_cases}
 use Rattle.cell_complex.proofs.Cofaces.{exact, boundary_same}
 use Rattle.cell_complex.proofs.Relative.{restriction-on, restriction-off, relative_complexes_are_complexes}
-use Rattle.cell_complex.proofs.Coefficients.{at_cell, either-none, coefficient-boundary, face_or_zero, same_cell_sym, boundary_at_is_boundary}
+use Rattle.cell_complex.proofs.Coefficients.{either-none, coefficient-boundary, face_or_zero, same_cell_sym, boundary_at_is_boundary}
 use Rattle.cell_complex.proofs.Matching.{Matching}
 
 -- ---- places in a listing
@@ -56,7 +60,7 @@ at_number test cells l q e =
 
 -- ---- the chain complex
 
-coefficient-past : (p : ℕ) (q : List Factor) → boundary_coefficient p q [] ≡ 0
+pub coefficient-past : (p : ℕ) (q : List Factor) → boundary_coefficient p q [] ≡ 0
 coefficient-past p [] = refl
 coefficient-past p (q ∷ qs) = refl
 
@@ -81,17 +85,17 @@ module _ (p : ℕ) (x a cells : List (List Factor)) (K : ChainComplex) (R : IsRe
       let inside : i < length cells = omega (arith, R.complex.count) in
       let q : List Factor = cell_at cells i in
       let here : test q ≡ true = listed test cells R.listing i inside in
-      let once : List Factor → ℕ = λ s. boundary_at p s (restriction_to test (at_cell q)) in
-      let each = λ (s : List Factor). boundary_same p s (at_cell q) (restriction_to test (at_cell q)) (λ t f. same_sym (only test q here t)) in
+      let once : List Factor → ℕ = λ s. boundary_at p s (restriction_to test (unit_at q)) in
+      let each = λ (s : List Factor). boundary_same p s (unit_at q) (restriction_to test (unit_at q)) (λ t f. same_sym (only test q here t)) in
       let matched = boundary_by_cell (incidence K.boundaries i) once (λ k m. same_trans (R.complex.incidences i k inside) (same_trans (exact p (coefficient-boundary p q (cell_at cells k))) (each (cell_at cells k)))) g in
       same_trans matched (⊎_elim
-      (λ within. (relative_complexes_are_complexes.squares p x a h) (at_cell q) (cell_at cells g) (listed test cells R.listing g within))
+      (λ within. (relative_complexes_are_complexes.squares p x a h) (unit_at q) (cell_at cells g) (listed test cells R.listing g within))
       (λ beyond. exact p (ap (λ r. boundary_at p r (restriction_to test once)) (get_or_past cells g [] beyond)))
       (cases_lt g (length cells)))
     where
-      only : (test : List Factor → Bool) (q : List Factor) → test q ≡ true → (t : List Factor) → Same p (restriction_to test (at_cell q) t) (at_cell q t)
+      only : (test : List Factor → Bool) (q : List Factor) → test q ≡ true → (t : List Factor) → Same p (restriction_to test (unit_at q) t) (unit_at q t)
       only test q here t = ⊎_elim
-          (λ e. exact p (restriction-on test (at_cell q) t (ap test (sym e) ∙ here)))
+          (λ e. exact p (restriction-on test (unit_at q) t (ap test (sym e) ∙ here)))
           (λ f. exact p (ap (λ v. cond (test t) (cond v 1 0) 0) (same_cell_sym t q ∙ f) ∙ either-none (test t) ∙ sym (ap (λ v. cond v 1 0) (same_cell_sym t q ∙ f))))
           (cell_cases q t)
 
@@ -118,3 +122,25 @@ numbered_cells_are_complex p x a cells K h R = record {
   lowers = lowers p x a cells K R h;
   squares_to_zero = squares p x a cells K R h;
 }
+
+-- ---- the parts of a complex
+
+pub from_parts : (p : ℕ) (cells : List (List Factor)) (K : ChainComplex) (degrees : List ℕ) (bs : List (List (ℕ × ℕ))) → K.degrees ≡ degrees → K.boundaries ≡ bs → degrees ≡ map dimension_of cells → AreBoundaries p cells bs → length bs ≡ length cells → length cells < 2 ^ 32 → IsComplexOf p cells K
+from_parts p cells K degrees bs ed eb dimensions boundaries count few = record {
+  degrees = ed ∙ dimensions;
+  count = ap length eb ∙ count;
+  short = few;
+  normal = λ h l. subst (λ (cs : List (List (ℕ × ℕ))). IsNormal p (get_or cs h [])) (sym eb) (boundaries.each h (omega (arith, count, l))).normal;
+  incidences = λ h g l. same_trans (exact p (ap (λ cs. coefficient (get_or cs h []) g) eb)) ((boundaries.each h (omega (arith, count, l))).coefficients g);
+}
+
+-- such parts are not refused
+pub not_refused : (p : ℕ) (degrees : List ℕ) (bs : List (List (ℕ × ℕ))) (fault : ComplexFault) → IsComplex p (record { degrees = degrees; boundaries = bs }) → IsRefusal p degrees bs fault → fault ≡ NoMemory
+not_refused p degrees bs (BadDegree h g) complex refusal = absurd (complex.lowers h g refusal.here)
+not_refused p degrees bs (NotZero h g value) complex refusal = absurd (refusal.1.here.nonzero (complex.squares_to_zero h g refusal.1.here.generator))
+not_refused p degrees bs NoMemory complex refusal = refl
+
+pub parts_not_refused : (p : ℕ) (cells : List (List Factor)) (degrees : List ℕ) (bs : List (List (ℕ × ℕ))) (fault : ComplexFault) → 1 ≤ p → IsOfPair cells → degrees ≡ map dimension_of cells → AreBoundaries p cells bs → length bs ≡ length cells → length cells < 2 ^ 32 → IsRefusal p degrees bs fault → fault ≡ NoMemory
+parts_not_refused p cells degrees bs fault h pair dimensions boundaries count few refusal =
+    let K : ChainComplex = record { degrees = degrees; boundaries = bs } in
+    not_refused p degrees bs fault (numbered_cells_are_complex p pair.x pair.a cells K h (record { listing = pair.listing; complex = from_parts p cells K degrees bs refl refl dimensions boundaries count few })) refusal

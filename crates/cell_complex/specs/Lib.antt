@@ -1,3 +1,5 @@
 pub mod RelativeComplex
+pub mod Sorted
 pub mod Numbering
+pub mod Boundaries
 pub mod Laws
