@@ -6,3 +6,11 @@ pub mod Uppers
 pub mod Uses
 pub mod FaceLemmas
 pub mod Making
+pub mod Walking
+pub mod Choosing
+pub mod Modular
+pub mod Boundaries
+pub mod Signs
+pub mod Members
+pub mod Zeros
+pub mod Listing
