@@ -1,4 +1,4 @@
-pub mod Tests
+pub mod Conjunctions
 pub mod Bits
 pub mod Keeping
 pub mod Words
@@ -14,3 +14,4 @@ pub mod Signs
 pub mod Members
 pub mod Zeros
 pub mod Listing
+pub mod Ranges

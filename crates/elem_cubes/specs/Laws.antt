@@ -1,11 +1,12 @@
 -- Laws of cells: each is the contract of a function of the crate with an empty body.
-use Rattle.std.specs.Prelude.{◌≡◌, ◌≢◌, ◌↔◌, true, ℕ, ◌+◌, ◌*◌, ◌<◌, ◌≤◌, ℤ, List, [], ◌∷◌, length, slice_index_or}
-use Rattle.std.specs.List.{Contains}
+use Rattle.std.specs.Prelude.{◌≡◌, ◌≢◌, ◌↔◌, true, ℕ, ◌*◌, ◌<◌, ◌≤◌, ℤ, List, [], length, slice_index_or, IsTrue}
+use Rattle.std.specs.List.{Contains, list_all}
 use Rattle.std.specs.Cmp.{IsTotalOrder}
 use Rattle.std.specs.declared.cmp.Ordering.TheVariants.{Equal}
 use Rattle.field_mod.specs.Sums.{total}
 use Rattle.field_mod.specs.Modular.{Same}
-use Rattle.elem_cubes.specs.Cells.{Factor, lower_of, upper_of, axes_of, cell_of, same_cell, dimension_of}
+use Rattle.elem_cubes.specs.Corners.{corner_cmp}
+use Rattle.elem_cubes.specs.Cells.{Factor, is_cell, is_file_factor, lower_of, upper_of, axes_of, cell_of, full_cell, same_cell}
 use Rattle.elem_cubes.specs.Faces.{IsFace, IsFacet, faces_of, cofaces_of, closure_of}
 use Rattle.elem_cubes.specs.Boundary.{residue, boundary_coefficient, boundary_at, boundary_pairing, signed_sum}
 use Rattle.elem_cubes.specs.Order.{cell_cmp}
@@ -24,6 +25,11 @@ pub record FacesAreTransitive : Type 0 where
   pub itself : (q : List Factor) → IsFace q q
   pub both : (q r : List Factor) → IsFace q r → IsFace r q → q ≡ r
   pub further : (q r s : List Factor) → IsFace q r → IsFace r s → IsFace q s
+
+-- with a cell its faces are in the range of cells, and in that of files
+pub record FacesStayInRange : Type 0 where
+  pub cells : (q r : List Factor) → IsFace q r → IsTrue (is_cell q) → IsTrue (is_cell r)
+  pub files : (q r : List Factor) → IsFace q r → IsTrue (list_all is_file_factor q) → IsTrue (list_all is_file_factor r)
 
 -- the listed faces are the facets, each once, with their coefficients in the boundary; all other coefficients are 0
 pub record FacesAreFacets : Type 0 where
@@ -73,8 +79,9 @@ BoundaryAtIsBoundary =
     → ((s : List Factor) → IsFace s r → c s ≢ 0 → (i : ℕ) × (i < length cells) × (cell_at cells i ≡ s))
     → Same p (total (length cells) (λ i. c (cell_at cells i) * boundary_coefficient p (cell_at cells i) r)) (boundary_at p r c)
 
--- the order of cells is total, and no two cells tie
+-- the order of cells is total, no two cells tie, and full cubes compare by their lower corners
 pub record OrderIsTotal : Type 0 where
   pub total : IsTotalOrder cell_cmp
   pub tied : (q r : List Factor) → (cell_cmp q r ≡ Equal) ↔ (q ≡ r)
   pub equal : (q r : List Factor) → (same_cell q r ≡ true) ↔ (q ≡ r)
+  pub full : (ls ms : List ℤ) → cell_cmp (full_cell ls) (full_cell ms) ≡ corner_cmp ls ms

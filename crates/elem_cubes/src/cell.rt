@@ -1,15 +1,14 @@
 //! Cells: elementary cubes.
-ghost use Rattle.std.specs.Prelude.{◌≡◌, ◌<◌, ◌≤◌, ◌^◌, ◌↔◌, ◌++◌, ◌&&◌, ◌*◌, ℤ, pos, negsuc, ◌+ℤ◌, List, length, slice_get, slice_set, int_lt, true, ◌-◌, IsTrue, nat_lt, if◌then◌else◌};
+ghost use Rattle.std.specs.Prelude.{◌≡◌, ◌<◌, ◌≤◌, ◌^◌, ◌↔◌, ◌&&◌, ℤ, negsuc, ◌+ℤ◌, List, length, slice_set, int_lt, true, ◌-◌, IsTrue, nat_lt, if◌then◌else◌};
 ghost use Rattle.std.proofs.Common.{rules};
-ghost use Rattle.std.specs.Hash as fed;
-ghost use Rattle.std.specs.List.{flat_map, list_all};
+ghost use Rattle.std.specs.List.{list_all};
 ghost use Rattle.std.specs.Cmp.Rules.{comparing};
 ghost use Rattle.std.specs.Ordering.{as_partial_cmp};
 ghost use Rattle.elem_cubes.specs.Cells.{point, interval, low, high, is_wide, is_factor, is_file_factor, is_cell, lower_of, upper_of, axes_of, cell_of, full_cell, dimension_of, same_cell};
 ghost use Rattle.elem_cubes.specs.Faces.{IsFace, faces_of, cofaces_of, closure_of, is_part, is_face};
 ghost use Rattle.elem_cubes.specs.Order.{cell_cmp};
 ghost use Rattle.elem_cubes.specs.Walks.{factor_at};
-ghost use Rattle.elem_cubes.specs.Packed.{words_of, OrdersUppers, cell_writes};
+ghost use Rattle.elem_cubes.specs.Packed.{OrdersUppers, cell_writes};
 
 use crate::closure::Closure;
 use crate::cofaces::Cofaces;
@@ -23,7 +22,7 @@ use std::marker::Model;
 
 /// An elementary cube, seen as the list of its factors: from one to `MAX_EMBEDDING` points and unit intervals, whose
 /// ends lie from `LOW - 1` to `HIGH + 1`. It is kept as its lower corner and its axes.
-#[derive(Clone, Copy)]
+#[derive(Clone, Copy, Debug)]
 pub struct Cell {
     ends: [i32; MAX_EMBEDDING],
     len: u8,
@@ -380,9 +379,9 @@ impl Ord for Cell {
     ghost matches_eq = { cell_cmp_ties };
 
     fn cmp(&self, other: &Cell) -> Ordering {
-        words(&self.ends)
-            .cmp(&words(&other.ends))
-            .then(compare_axes(self.axes, other.axes))
+        let lower = words(&self.ends).cmp(&words(&other.ends));
+        let upper = compare_axes(self.axes, other.axes);
+        lower.then(upper)
     }
 }
 

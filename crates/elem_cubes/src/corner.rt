@@ -1,8 +1,7 @@
 //! Corners: points of the lattice.
-ghost use Rattle.std.specs.Prelude.{◌≡◌, ◌<◌, ◌≤◌, ◌++◌, List, ℤ, length, slice_get, IsTrue, if◌then◌else◌};
+ghost use Rattle.std.specs.Prelude.{◌≡◌, ◌<◌, ◌≤◌, List, ℤ, length, slice_get, IsTrue, if◌then◌else◌};
 ghost use Rattle.std.proofs.Common.{rules, refl};
 ghost use Rattle.std.specs.Hash as fed;
-ghost use Rattle.std.specs.List.{flat_map};
 ghost use Rattle.std.specs.Cmp.Rules.{comparing, hashing};
 ghost use Rattle.std.specs.Cmp.Lexicographic.{pointwise, lists_ties, lists_total};
 ghost use Rattle.std.specs.Cmp.{po, int_cmp_total};
@@ -17,7 +16,7 @@ use std::marker::Model;
 
 /// A point of the lattice, seen as the list of its coordinates: from one to `MAX_EMBEDDING` numbers, each from
 /// `LOW - 1` to `HIGH + 1`.
-#[derive(Clone, Copy)]
+#[derive(Clone, Copy, Debug)]
 pub struct Corner {
     pub(crate) ends: [i32; MAX_EMBEDDING],
     pub(crate) len: u8,

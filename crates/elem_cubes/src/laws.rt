@@ -1,5 +1,5 @@
 //! Laws of cells, their faces and their boundary: each is the contract of a function that does nothing.
-ghost use Rattle.elem_cubes.specs.Laws.{CellsHaveParts, FacesAreTransitive, FacesAreFacets, CofacesAreAll, BoundaryIsOverCofaces, ClosuresAreFaces, FacetsAreUnits, BoundaryOfBoundaryIsZero, BoundaryAtIsBoundary, OrderIsTotal};
+ghost use Rattle.elem_cubes.specs.Laws.{CellsHaveParts, FacesAreTransitive, FacesStayInRange, FacesAreFacets, CofacesAreAll, BoundaryIsOverCofaces, ClosuresAreFaces, FacetsAreUnits, BoundaryOfBoundaryIsZero, BoundaryAtIsBoundary, OrderIsTotal};
 
 pub fn cells_have_parts()
     ensures { CellsHaveParts }
@@ -7,6 +7,10 @@ pub fn cells_have_parts()
 
 pub fn faces_are_transitive()
     ensures { FacesAreTransitive }
+{}
+
+pub fn faces_stay_in_range()
+    ensures { FacesStayInRange }
 {}
 
 pub fn faces_are_facets()

@@ -1,5 +1,5 @@
 //! Coordinates as they are kept: padded to one length, and read two at a time.
-ghost use Rattle.std.specs.Prelude.{◌≡◌, ◌≤◌, ◌&&◌, length};
+ghost use Rattle.std.specs.Prelude.{◌≡◌, ◌≤◌, length};
 ghost use Rattle.std.specs.List.{list_all};
 ghost use Rattle.elem_cubes.specs.Corners.{is_end, is_corner};
 ghost use Rattle.elem_cubes.specs.Packed.{padded, word, words_of};
@@ -10,7 +10,7 @@ use crate::range::{HIGH, LOW, MAX_EMBEDDING};
 pub(crate) const PADDING: i32 = i32::MIN;
 
 /// How many words the coordinates fill, two to a word.
-pub(crate) const WORDS: usize = 2;
+pub(crate) const WORDS: usize = MAX_EMBEDDING / 2;
 
 pub(crate) fn is_end(x: i32) -> bool
     ensures { result ≡ is_end x }
