@@ -13,8 +13,9 @@ use Rattle.chains.specs.ChainComplex.{ChainComplex, IsBasisOf, system}
 use Rattle.cell_complex.specs.RelativeComplex.{is_relative, relative_complex}
 use Rattle.cell_complex.specs.Numbering.{IsRelativeComplex, number_of, by_cell, by_number, cell_coefficient, cell_terms}
 use Rattle.cell_complex.specs.Laws.{BasesAreByNumberOrCell, ChainsAreByNumberOrCell}
-use Rattle.cell_complex.proofs.Tests.{cell_refl, cell_true, cell_cases}
-use Rattle.cell_complex.proofs.Cofaces.{exact}
+use Rattle.elem_cubes.specs.OrderLemmas.{cell_refl, cell_cases}
+use Rattle.elem_cubes.proofs.Modular.{exact}
+use Rattle.cell_complex.proofs.Deciding.{cell_true}
 use Rattle.cell_complex.proofs.Matching.{Matching, IsMatch, turned, chain_matches, cycle_matches, null_matches, basis_matches, at_back}
 use Rattle.cell_complex.proofs.Numbering.{listed, number_at, number_within, at_number, boundary_by_cell}
 

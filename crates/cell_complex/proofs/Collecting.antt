@@ -14,10 +14,10 @@ use Rattle.elem_cubes.specs.Boundary.{residue, boundary_coefficient, signed_sum}
 use Rattle.elem_cubes.specs.Laws.{cell_at}
 use Rattle.chains.specs.Terms.{coefficient, IsNormal}
 use Rattle.chains.proofs.TermLists.{coefficient-append}
+use Rattle.elem_cubes.specs.OrderLemmas.{cell_refl, cell_cases}
+use Rattle.elem_cubes.proofs.Modular.{exact}
 use Rattle.cell_complex.specs.Sorted.{IsSortedCells}
 use Rattle.cell_complex.specs.Boundaries.{unit_at, IsSign, HaveSigns, AddsFacet, IsPartialBoundary, IsBoundaryAmong, AreBoundaries}
-use Rattle.cell_complex.proofs.Tests.{cell_refl, cell_cases}
-use Rattle.cell_complex.proofs.Cofaces.{exact}
 use Rattle.cell_complex.proofs.Numbering.{coefficient-past}
 use Rattle.cell_complex.proofs.Facets.{facets_coefficient, facets_have_signs, residue_of}
 use Rattle.cell_complex.proofs.Sorting.{apart}

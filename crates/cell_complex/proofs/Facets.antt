@@ -1,4 +1,4 @@
--- The signed sum over the facets of a cell is the pairing of its boundary, and so gives the coefficients
+-- The signed sum over the facets of a cell gives the coefficients of its boundary; the signs of facets, as the code reads them
 use Rattle.std.proofs.Common.{◌≡◌, ℕ, zero, suc, ◌+◌, ◌-◌, ◌*◌, ◌%◌, ◌/◌, ◌<◌, ◌≤◌, inl, inr, ⊎_elim, refl, sym, ap, ◌∙◌, arith, List, [], ◌∷◌, ◌++◌, map, Bool, true, false, cond, ◌&&◌}
 use Rattle.std.specs.Prelude.{ℤ, pos, negsuc, ◌+ℤ◌, neg_ℤ}
 use Rattle.std.specs.Int.{int_rem_euclid}
@@ -12,44 +12,8 @@ use Rattle.elem_cubes.specs.Cells.{Factor, point, interval, same_cell}
 use Rattle.elem_cubes.specs.Faces.{behind, changed, ends_of, faces_of}
 use Rattle.elem_cubes.specs.Boundary.{residue, boundary_coefficient, boundary_pairing, signed_sum}
 use Rattle.cell_complex.specs.Boundaries.{unit_at, IsSign, HaveSigns}
-use Rattle.cell_complex.proofs.Cofaces.{exact, neg_cancel}
-use Rattle.cell_complex.proofs.Coefficients.{either-none}
-
-signed_sum-append : (p : ℕ) (f : List Factor → ℕ) (gs hs : List (List Factor × ℤ)) → signed_sum p f (gs ++ hs) ≡ signed_sum p f gs + signed_sum p f hs
-signed_sum-append p f [] hs = omega arith
-signed_sum-append p f (g ∷ gs) hs = omega (arith, signed_sum-append p f gs hs)
-
-signed_sum-behind_point : (p : ℕ) (f : List Factor → ℕ) (l : ℤ) (gs : List (List Factor × ℤ)) → signed_sum p f (map (behind (point l)) gs) ≡ signed_sum p (λ rs. f (point l ∷ rs)) gs
-signed_sum-behind_point p f l [] = refl
-signed_sum-behind_point p f l (g ∷ gs) = ap (λ v. residue p g.1 * f (point l ∷ g.0) + v) (signed_sum-behind_point p f l gs)
-
-residue-neg : (p : ℕ) (s : ℤ) → 1 ≤ p → Same p (residue p (neg_ℤ s)) ((p - 1) * residue p s)
-residue-neg p (pos zero) h = exact p (omega arith)
-residue-neg p (pos (suc n)) h = exact p (ap (λ v. (p - 1) * v) (let e : n + 1 ≡ suc n = omega arith in e))
-residue-neg p (negsuc n) h =
-    let e = neg_cancel p (n + 1) h in
-    let f = neg_cancel p ((p - 1) * (n + 1)) h in
-    same_by p ((p - 1) * (n + 1)) (n + 1) (suc n) ((p - 1) * ((p - 1) * (n + 1))) (omega arith)
-
-signed_sum-behind_interval : (p : ℕ) (f : List Factor → ℕ) (l : ℤ) (gs : List (List Factor × ℤ)) → 1 ≤ p → Same p (signed_sum p f (map (behind (interval l)) gs)) ((p - 1) * signed_sum p (λ rs. f (interval l ∷ rs)) gs)
-signed_sum-behind_interval p f l [] h = exact p (omega arith)
-signed_sum-behind_interval p f l (g ∷ gs) h =
-    let x = f (interval l ∷ g.0) in
-    let one : Same p (x * residue p (neg_ℤ g.1)) (x * ((p - 1) * residue p g.1)) = same-scale x (residue-neg p g.1 h) in
-    let rest = signed_sum-behind_interval p f l gs h in
-    same_trans (exact p (ap (λ v. v + signed_sum p f (map (behind (interval l)) gs)) (let e : residue p (neg_ℤ g.1) * x ≡ x * residue p (neg_ℤ g.1) = omega arith in e)))
-    (same_trans (same-add one rest) (exact p (let e : x * ((p - 1) * residue p g.1) + (p - 1) * signed_sum p (λ rs. f (interval l ∷ rs)) gs ≡ (p - 1) * (residue p g.1 * x + signed_sum p (λ rs. f (interval l ∷ rs)) gs) = omega arith in e)))
-
-pub facets_sum : (p : ℕ) (q : List Factor) (f : List Factor → ℕ) → 1 ≤ p → Same p (signed_sum p f (faces_of q)) (boundary_pairing p q f)
-facets_sum p [] f h = same_refl p 0
-facets_sum p (point l ∷ qs) f h =
-    same_trans (exact p (signed_sum-behind_point p f l (faces_of qs))) (facets_sum p qs (λ rs. f (point l ∷ rs)) h)
-facets_sum p (interval l ∷ qs) f h =
-    let rest = same_trans (signed_sum-behind_interval p f l (faces_of qs) h) (same-scale (p - 1) (facets_sum p qs (λ rs. f (interval l ∷ rs)) h)) in
-    let a = f (point (l +ℤ pos 1) ∷ qs) in
-    let b = f (point l ∷ qs) in
-    let s = signed_sum p f (map (behind (interval l)) (faces_of qs)) in
-    same_trans (exact p (let e : 1 * a + ((p - 1) * (0 + 1) * b + s) ≡ a + (p - 1) * b + s = omega arith in e)) (same-add (same_refl p (a + (p - 1) * b)) rest)
+use Rattle.elem_cubes.proofs.Modular.{exact, neg_cancel, either-none}
+use Rattle.elem_cubes.proofs.Signs.{sum_over_faces}
 
 pairing-none : (p : ℕ) (q : List Factor) → boundary_pairing p q (λ r. 0) ≡ 0
 pairing-none p [] = refl
@@ -90,7 +54,7 @@ coefficient-pairing p (interval l ∷ qs) (point m ∷ rs) =
 
 -- the coefficient of r in the boundary of q is the signed number of times that r is listed among the facets of q
 pub facets_coefficient : (p : ℕ) (q r : List Factor) → 1 ≤ p → Same p (signed_sum p (unit_at r) (faces_of q)) (boundary_coefficient p q r)
-facets_coefficient p q r h = same_trans (facets_sum p q (unit_at r) h) (exact p (sym (coefficient-pairing p q r)))
+facets_coefficient p q r h = same_trans (sum_over_faces p q (unit_at r) h) (exact p (sym (coefficient-pairing p q r)))
 
 -- a sign, as an element of the field
 pub residue_of : (p n : ℕ) (s : ℤ) → 1 ≤ p → pos n ≡ int_rem_euclid s (pos p) → Same p n (residue p s)

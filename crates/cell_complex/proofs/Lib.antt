@@ -1,7 +1,6 @@
-pub mod Tests
+pub mod Deciding
 pub mod Cofaces
-pub mod Coefficients
-pub mod Relative
+pub mod Squares
 pub mod Matching
 pub mod Numbering
 pub mod ByCell

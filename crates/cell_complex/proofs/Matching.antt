@@ -7,7 +7,7 @@ use Rattle.field_mod.specs.Modular.{Same}
 use Rattle.field_mod.proofs.Sums.{total_same}
 use Rattle.field_mod.proofs.Modular.{same_refl, same_sym, same_trans, same-add, same-scale}
 use Rattle.chains.specs.Homology.{System, IsChain, IsCycle, IsNull, IsSpanned, IsBasis, combination}
-use Rattle.cell_complex.proofs.Cofaces.{exact}
+use Rattle.elem_cubes.proofs.Modular.{exact}
 
 -- the generators of K and L, one for one
 pub record Matching {G H : Type 0} (p : ℕ) (K : System G) (L : System H) : Type 0 where

@@ -25,10 +25,13 @@ use Rattle.cell_complex.specs.RelativeComplex.{is_relative, restriction_to, comp
 use Rattle.cell_complex.specs.Numbering.{IsListing, IsOfPair, IsComplexOf, IsRelativeComplex, number_of}
 use Rattle.cell_complex.specs.Boundaries.{unit_at, AreBoundaries}
 use Rattle.cell_complex.specs.Laws.{NumberedCellsAreComplex}
-use Rattle.cell_complex.proofs.Tests.{cell_refl, cell_true, cell_cases}
-use Rattle.cell_complex.proofs.Cofaces.{exact, boundary_same}
-use Rattle.cell_complex.proofs.Relative.{restriction-on, restriction-off, relative_complexes_are_complexes}
-use Rattle.cell_complex.proofs.Coefficients.{either-none, coefficient-boundary, face_or_zero, same_cell_sym, boundary_at_is_boundary}
+use Rattle.elem_cubes.specs.OrderLemmas.{cell_refl, cell_cases}
+use Rattle.elem_cubes.proofs.Modular.{exact, either-none}
+use Rattle.elem_cubes.proofs.Boundaries.{coefficient-boundary, boundary_at_is_boundary}
+use Rattle.elem_cubes.proofs.Zeros.{face_or_zero}
+use Rattle.cell_complex.proofs.Deciding.{same_cell_sym}
+use Rattle.cell_complex.proofs.Cofaces.{boundary_same}
+use Rattle.cell_complex.proofs.Squares.{restriction-on, restriction-off, relative_complexes_are_complexes}
 use Rattle.cell_complex.proofs.Matching.{Matching}
 
 -- ---- places in a listing

@@ -7,7 +7,7 @@ use Rattle.std.specs.declared.cmp.Ordering.{Ordering}
 use Rattle.std.specs.declared.cmp.Ordering.TheVariants.{Less, Equal}
 use Rattle.std.proofs.lemmas.Bool.{true≢false, cases_lt, lt-ltb}
 use Rattle.std.proofs.lemmas.List.{take_more, get_or-take, length-take-le, get_or_default}
-use Rattle.std.proofs.lemmas.List.Elements.{All-from_recursion}
+use Rattle.std.proofs.lemmas.Map.Keys.{Less-from_sorted}
 use Rattle.std.proofs.lemmas.List.Folds.{list_any_none}
 use Rattle.std.proofs.lemmas.List.Quantifiers.{position-Some}
 use Rattle.std.proofs.lemmas.List.Sums.{fails_before_first, position_or_len_is}
@@ -16,19 +16,11 @@ use Rattle.std.specs.Prelude.{slice_get}
 use Rattle.indexmap.specs.IndexSet.{insert_key}
 use Rattle.elem_cubes.specs.Cells.{Factor, same_cell}
 use Rattle.elem_cubes.specs.Order.{cell_cmp}
-use Rattle.elem_cubes.specs.OrderLemmas.{cell_cmp_total}
+use Rattle.elem_cubes.specs.OrderLemmas.{cell_cmp_total, cell_refl, cell_cases}
 use Rattle.elem_cubes.specs.Laws.{cell_at}
 use Rattle.cell_complex.specs.Sorted.{IsSortedCells}
 use Rattle.cell_complex.specs.Numbering.{number_of}
-use Rattle.cell_complex.proofs.Tests.{cell_true, cell_cases, cell_refl}
-
-later : (cells : List (List Factor)) → IsStrictlySortedBy cell_cmp cells → (i j : ℕ) → i < j → j < length cells → cell_cmp (cell_at cells i) (cell_at cells j) ≡ Less
-unfolding IsStrictlySortedBy
-later [] h i j lt within = absurd (omega arith)
-later (q ∷ qs) h zero zero lt within = absurd (omega arith)
-later (q ∷ qs) h zero (suc j) lt within = All-from_recursion (λ r. cell_cmp q r ≡ Less) qs h.0 j [] (omega arith)
-later (q ∷ qs) h (suc i) zero lt within = absurd (omega arith)
-later (q ∷ qs) h (suc i) (suc j) lt within = later qs h.1 i j (omega arith) (omega arith)
+use Rattle.cell_complex.proofs.Deciding.{cell_true}
 
 differ : (q r : List Factor) → cell_cmp q r ≡ Less → q ≡ r → ⊥
 differ q r less e =
@@ -39,8 +31,8 @@ differ q r less e =
 -- no cell stands twice
 pub apart : (cells : List (List Factor)) → IsStrictlySortedBy cell_cmp cells → (i j : ℕ) → i < length cells → j < length cells → cell_at cells i ≡ cell_at cells j → i ≡ j
 apart cells h i j li lj e = ⊎_elim
-    (λ lt. absurd (differ (cell_at cells i) (cell_at cells j) (later cells h i j lt lj) e))
-    (λ ge. ⊎_elim (λ lt. absurd (differ (cell_at cells j) (cell_at cells i) (later cells h j i lt li) (sym e))) (λ le. let s : i ≡ j = omega arith in s) (cases_lt j i))
+    (λ lt. absurd (differ (cell_at cells i) (cell_at cells j) (Less-from_sorted cell_cmp cells i j [] h lt lj) e))
+    (λ ge. ⊎_elim (λ lt. absurd (differ (cell_at cells j) (cell_at cells i) (Less-from_sorted cell_cmp cells j i [] h lt li) (sym e))) (λ le. let s : i ≡ j = omega arith in s) (cases_lt j i))
     (cases_lt i j)
 
 -- ---- numbering

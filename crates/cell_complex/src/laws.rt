@@ -2,20 +2,20 @@
 ghost use Rattle.cell_complex.specs.Laws.{CellsOfSetsAreClosed, DifferencesAreComplexes, RelativeComplexesAreComplexes, NumberedCellsAreComplex, BasesAreByNumberOrCell};
 
 /// The cells of a set are closed under faces; those of a list that is closed are its members.
-#[tactic(auto, using(crate::proofs::Tests::cells_of_sets_are_closed))]
+#[tactic(auto, using(crate::proofs::Deciding::cells_of_sets_are_closed))]
 pub fn cells_of_sets_are_closed()
     ensures { CellsOfSetsAreClosed }
 {}
 
 /// The cells of one closed set that are not in another are a complex.
-#[tactic(auto, using(crate::proofs::Relative::differences_are_complexes))]
+#[tactic(auto, using(crate::proofs::Squares::differences_are_complexes))]
 pub fn differences_are_complexes()
     ensures { DifferencesAreComplexes }
 {}
 
 /// The relative complex of any two sets is a complex: boundaries of boundaries are 0, and the boundary is linear and
 /// lowers degrees by one.
-#[tactic(auto, using(crate::proofs::Relative::relative_complexes_are_complexes))]
+#[tactic(auto, using(crate::proofs::Squares::relative_complexes_are_complexes))]
 pub fn relative_complexes_are_complexes()
     ensures { RelativeComplexesAreComplexes }
 {}

@@ -13,8 +13,10 @@ use Rattle.elem_cubes.specs.Boundary.{boundary_at}
 use Rattle.chains.specs.Homology.{IsBoundaryOperator, combination}
 use Rattle.cell_complex.specs.RelativeComplex.{is_cell_of, is_relative, restriction_to, complex_on, relative_complex, IsClosed, SquaresToZero}
 use Rattle.cell_complex.specs.Laws.{DifferencesAreComplexes, RelativeComplexesAreComplexes}
-use Rattle.cell_complex.proofs.Tests.{closed}
-use Rattle.cell_complex.proofs.Cofaces.{exact, boundary_same, boundary-none, boundary-total, boundary_twice}
+use Rattle.cell_complex.proofs.Deciding.{closed}
+use Rattle.elem_cubes.proofs.Modular.{exact}
+use Rattle.elem_cubes.proofs.Boundaries.{boundary-none, boundary-total, boundary_twice}
+use Rattle.cell_complex.proofs.Cofaces.{boundary_same}
 
 -- ---- restrictions
 
