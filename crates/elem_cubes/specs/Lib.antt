@@ -1,0 +1,10 @@
+pub mod Corners
+pub mod Cells
+pub mod Faces
+pub mod Boundary
+pub mod Order
+pub mod Packed
+pub mod KeepingLemmas
+pub mod OrderLemmas
+pub mod Walks
+pub mod Laws

@@ -1,0 +1,390 @@
+//! Cells: elementary cubes.
+ghost use Rattle.std.specs.Prelude.{◌≡◌, ◌<◌, ◌≤◌, ◌^◌, ◌↔◌, ◌++◌, ◌&&◌, ◌*◌, ℤ, pos, negsuc, ◌+ℤ◌, List, length, slice_get, slice_set, slice_index_or, int_lt, ◌-◌, IsTrue, nat_lt, if◌then◌else◌};
+ghost use Rattle.std.proofs.Common.{rules};
+ghost use Rattle.std.specs.Hash as fed;
+ghost use Rattle.std.specs.List.{flat_map, list_all};
+ghost use Rattle.std.specs.Cmp.Rules.{comparing};
+ghost use Rattle.std.specs.Ordering.{as_partial_cmp};
+ghost use Rattle.elem_cubes.specs.Cells.{point, interval, low, is_wide, is_factor, is_file_factor, is_cell, lower_of, upper_of, axes_of, cell_of, full_cell, dimension_of, same_cell};
+ghost use Rattle.elem_cubes.specs.Faces.{IsFace, faces_of, cofaces_of, closure_of, is_part, is_face};
+ghost use Rattle.elem_cubes.specs.Order.{cell_cmp};
+ghost use Rattle.elem_cubes.specs.Packed.{words_of, axes_cmp, cell_writes};
+
+use crate::closure::Closure;
+use crate::cofaces::Cofaces;
+use crate::corner::Corner;
+use crate::faces::Faces;
+use crate::packed::{is_end, words};
+use crate::range::{HIGH, LOW, MAX_EMBEDDING};
+use std::cmp::Ordering;
+use std::hash::{Hash, Hasher};
+use std::marker::Model;
+
+/// An elementary cube, seen as the list of its factors: from one to `MAX_EMBEDDING` points and unit intervals, whose
+/// ends lie from `LOW - 1` to `HIGH + 1`. It is kept as its lower corner and its axes.
+#[derive(Clone, Copy)]
+pub struct Cell {
+    ends: [i32; MAX_EMBEDDING],
+    len: u8,
+    axes: u8,
+}
+
+impl Model for Cell {
+    ghost use Rattle.std.specs.Prelude.{List, length, take};
+    ghost use Rattle.elem_cubes.specs.declared.range.TheConstants.{MAX_EMBEDDING};
+    ghost use Rattle.elem_cubes.specs.Cells.{Factor, cell_of, lower_of, axes_of};
+    ghost use Rattle.elem_cubes.specs.Packed.{padded, KeepsCell};
+
+    ghost Value = { List Factor };
+
+    ghost view = { λ c. cell_of (take c.len c.ends) c.axes };
+
+    ghost invariant = { λ c. KeepsCell c.ends c.len c.axes };
+
+    ghost inverse = { λ q. record { ends = padded MAX_EMBEDDING (lower_of q); len = length q; axes = axes_of q } };
+
+    ghost use Rattle.elem_cubes.specs.KeepingLemmas.{unpacked};
+
+    ghost inverse_ok = { λ a h. λ i. record { ends = (unpacked a.ends a.len a.axes h).0 i; len = (unpacked a.ends a.len a.axes h).1 i; axes = (unpacked a.ends a.len a.axes h).2 i } };
+}
+
+impl Cell {
+    /// The cell with this lower corner that is an interval along the axes of these bits, the first axis in the lowest.
+    /// `None` where a bit at or past the corner's length is set, or an interval begins at `HIGH + 1`.
+    pub fn new(lower: Corner, axes: u8) -> Option<Cell>
+        ensures { result ≡ (if nat_lt axes (2 ^ length lower) && is_cell (cell_of lower axes) then Some (cell_of lower axes) else None) }
+    {
+        if axes >> lower.len != 0 || !are_factors(lower.coordinates(), axes) {
+            return None;
+        }
+        Some(Cell {
+            ends: lower.ends,
+            len: lower.len,
+            axes,
+        })
+    }
+
+    /// The full cube with this lower corner. `None` where a coordinate is `HIGH + 1`.
+    pub fn full(lower: &Corner) -> Option<Cell>
+        ensures { result ≡ (if is_cell (full_cell lower.now) then Some (full_cell lower.now) else None) }
+    {
+        Cell::new(*lower, all_axes(lower.len))
+    }
+
+    /// The lower corner.
+    pub fn lower(&self) -> Corner
+        ensures { result ≡ lower_of self.now }
+    {
+        Corner {
+            ends: self.ends,
+            len: self.len,
+        }
+    }
+
+    /// The upper corner.
+    pub fn upper(&self) -> Corner
+        ensures { result ≡ upper_of self.now }
+    {
+        Corner {
+            ends: upper_ends(&self.ends, self.axes),
+            len: self.len,
+        }
+    }
+
+    /// The axes along which the cell is an interval, the first axis in the lowest bit.
+    pub fn axes(&self) -> u8
+        ensures axes { result ≡ axes_of self.now }
+        ensures parts { self.now ≡ cell_of (lower_of self.now) result }
+        ensures few { result < 2 ^ length self.now }
+    {
+        self.axes
+    }
+
+    /// The dimension: the number of intervals.
+    pub fn dim(&self) -> u32
+        ensures dimension { result ≡ dimension_of self.now }
+        ensures few { result ≤ length self.now }
+    {
+        self.axes.count_ones()
+    }
+
+    /// The embedding number: the number of factors.
+    pub fn embedding(&self) -> u32
+        ensures embedding { result ≡ length self.now }
+        ensures some { 1 ≤ result }
+        ensures few { result ≤ MAX_EMBEDDING }
+        ensures cell { IsTrue (is_cell self.now) }
+    {
+        u32::from(self.len)
+    }
+
+    /// Whether all factors are intervals.
+    pub fn is_full(&self) -> bool
+        ensures { result ≡ list_all is_wide self.now }
+    {
+        self.axes == all_axes(self.len)
+    }
+
+    /// Whether every end lies from `LOW` to `HIGH`.
+    pub fn in_range(&self) -> bool
+        ensures { result ≡ list_all is_file_factor self.now }
+    {
+        are_in_range(self.low_ends(), self.axes)
+    }
+
+    /// Whether the other cell is a face of this one.
+    pub fn has_face(&self, other: &Cell) -> bool
+        ensures { IsTrue result ↔ IsFace self.now other.now }
+    {
+        self.len == other.len && are_parts(self.low_ends(), self.axes, other.low_ends(), other.axes)
+    }
+
+    /// The faces of one dimension less, with their signs in the boundary: axes ascending, the upper end before the lower.
+    pub fn faces(&self) -> Faces
+        ensures { result ≡ faces_of self.now }
+    {
+        Faces::of(*self)
+    }
+
+    /// The cells of one dimension more that have this one as a face, with this cell's sign in their boundary: axes
+    /// ascending, upward (at the own corner) before downward.
+    pub fn cofaces(&self) -> Cofaces
+        requires { IsTrue (list_all is_file_factor self.now) }
+        ensures { result ≡ cofaces_of self.now }
+    {
+        Cofaces::of(*self)
+    }
+
+    /// All faces, the cell itself among them, each once.
+    pub fn closure(&self) -> Closure
+        ensures { result ≡ closure_of self.now }
+    {
+        Closure::of(*self)
+    }
+
+    fn low_ends(&self) -> &[i32]
+        ensures { result.now ≡ lower_of self.now }
+    {
+        &self.ends[..self.len as usize]
+    }
+
+    pub(crate) fn len(&self) -> usize
+        ensures len { result ≡ length self.now }
+        ensures few { result ≤ MAX_EMBEDDING }
+    {
+        self.len as usize
+    }
+
+    /// Whether the factor on the axis `i` is an interval.
+    pub(crate) fn is_wide(&self, i: usize) -> bool
+        requires { i < length self.now }
+        ensures { result ≡ is_wide (slice_index_or self.now i (point (pos 0))) }
+    {
+        self.axes >> i & 1 == 1
+    }
+
+    /// The lower end of the factor on the axis `i`.
+    pub(crate) fn low(&self, i: usize) -> i32
+        requires { i < length self.now }
+        ensures { result ≡ low (slice_index_or self.now i (point (pos 0))) }
+    {
+        self.ends[i]
+    }
+
+    /// The cell with a point on the axis `i`.
+    pub(crate) fn with_point(&self, i: usize, end: i32) -> Cell
+        requires axis { i < length self.now }
+        requires fits { IsTrue (is_factor (point end)) }
+        ensures { result ≡ slice_set self.now i (point end) }
+    {
+        let mut ends = self.ends;
+        ends[i] = end;
+        Cell {
+            ends,
+            len: self.len,
+            axes: self.axes & !(1 << i),
+        }
+    }
+
+    /// The cell with an interval on the axis `i`.
+    pub(crate) fn with_interval(&self, i: usize, end: i32) -> Cell
+        requires axis { i < length self.now }
+        requires fits { IsTrue (is_factor (interval end)) }
+        ensures { result ≡ slice_set self.now i (interval end) }
+    {
+        let mut ends = self.ends;
+        ends[i] = end;
+        Cell {
+            ends,
+            len: self.len,
+            axes: self.axes | 1 << i,
+        }
+    }
+}
+
+/// The bits of the first `len` axes.
+fn all_axes(len: u8) -> u8
+    requires { len ≤ MAX_EMBEDDING }
+    ensures { result ≡ 2 ^ len - 1 }
+{
+    (1 << len) - 1
+}
+
+/// Whether these coordinates and axes give factors of cells.
+fn are_factors(ends: &[i32], axes: u8) -> bool
+    ensures { result ≡ list_all is_factor (cell_of ends.now axes) }
+{
+    let mut rest = axes;
+    for end in ends {
+        if !is_factor(*end, rest % 2 == 1) {
+            return false;
+        }
+        rest /= 2;
+    }
+    true
+}
+
+fn is_factor(end: i32, wide: bool) -> bool
+    ensures { result ≡ is_factor (if wide then interval end else point end) }
+{
+    is_end(end) && (!wide || end <= HIGH)
+}
+
+/// Whether these coordinates and axes give factors of the range of the files.
+fn are_in_range(ends: &[i32], axes: u8) -> bool
+    ensures { result ≡ list_all is_file_factor (cell_of ends.now axes) }
+{
+    let mut rest = axes;
+    for end in ends {
+        if !is_file_factor(*end, rest % 2 == 1) {
+            return false;
+        }
+        rest /= 2;
+    }
+    true
+}
+
+fn is_file_factor(end: i32, wide: bool) -> bool
+    ensures { result ≡ is_file_factor (if wide then interval end else point end) }
+{
+    LOW <= end && end <= HIGH && (!wide || end < HIGH)
+}
+
+/// The upper ends of the factors of these coordinates and axes.
+fn upper_ends(ends: &[i32; MAX_EMBEDDING], axes: u8) -> [i32; MAX_EMBEDDING]
+    requires { IsTrue (list_all (λ f. int_lt (low f) i32.MAX) (cell_of ends.now axes)) }
+    ensures { result ≡ upper_of (cell_of ends.now axes) }
+{
+    let mut uppers = *ends;
+    let mut rest = axes;
+    for i in 0..MAX_EMBEDDING {
+        if rest % 2 == 1 {
+            uppers[i] = ends[i] + 1;
+        }
+        rest /= 2;
+    }
+    uppers
+}
+
+/// Whether the factors of the second coordinates and axes are parts of those of the first.
+fn are_parts(ends: &[i32], axes: u8, other_ends: &[i32], other_axes: u8) -> bool
+    requires { length ends.now ≡ length other_ends.now }
+    ensures { result ≡ is_face (cell_of ends.now axes) (cell_of other_ends.now other_axes) }
+{
+    let mut rest = axes;
+    let mut other_rest = other_axes;
+    for i in 0..ends.len() {
+        if !is_part(ends[i], rest % 2 == 1, other_ends[i], other_rest % 2 == 1) {
+            return false;
+        }
+        rest /= 2;
+        other_rest /= 2;
+    }
+    true
+}
+
+fn is_part(end: i32, wide: bool, other_end: i32, other_wide: bool) -> bool
+    ensures { result ≡ is_part (if wide then interval end else point end) (if other_wide then interval other_end else point other_end) }
+{
+    if other_wide {
+        wide && end == other_end
+    } else {
+        end == other_end || wide && i64::from(end) + 1 == i64::from(other_end)
+    }
+}
+
+impl PartialEq for Cell {
+    ghost use Rattle.elem_cubes.specs.OrderLemmas.{same_cell_partial};
+
+    ghost eq = { same_cell };
+
+    ghost laws = { same_cell_partial };
+
+    fn eq(&self, other: &Cell) -> bool {
+        words(&self.ends) == words(&other.ends) && self.axes == other.axes
+    }
+}
+
+impl Eq for Cell {
+    ghost use Rattle.elem_cubes.specs.OrderLemmas.{same_cell_equivalence};
+
+    ghost laws = { same_cell_equivalence };
+}
+
+impl Ord for Cell {
+    ghost use Rattle.elem_cubes.specs.OrderLemmas.{cell_cmp_total, cell_cmp_ties};
+
+    ghost cmp = { cell_cmp };
+
+    ghost total = { cell_cmp_total };
+
+    ghost matches_partial_cmp = { Prim.search (comparing, rules) };
+
+    ghost matches_eq = { cell_cmp_ties };
+
+    fn cmp(&self, other: &Cell) -> Ordering {
+        words(&self.ends)
+            .cmp(&words(&other.ends))
+            .then(compare_axes(self.axes, other.axes))
+    }
+}
+
+impl PartialOrd for Cell {
+    ghost use Rattle.elem_cubes.specs.OrderLemmas.{cell_cmp_partial};
+
+    ghost partial_cmp = { as_partial_cmp cell_cmp };
+
+    ghost laws = { cell_cmp_partial };
+
+    fn partial_cmp(&self, other: &Cell) -> Option<Ordering> {
+        Some(self.cmp(other))
+    }
+}
+
+impl Hash for Cell {
+    ghost use Rattle.elem_cubes.specs.OrderLemmas.{cell_hash_alike};
+
+    ghost hash_input = { cell_writes };
+
+    ghost respects_eq = { cell_hash_alike };
+
+    fn hash<H: Hasher>(&self, state: &mut H) {
+        i64::hash_slice(&words(&self.ends), state);
+        state.write_u8(self.axes);
+    }
+}
+
+/// The order of two sets of axes: where they differ first, the one without the axis is less.
+fn compare_axes(axes: u8, other: u8) -> Ordering
+    ensures { result ≡ axes_cmp 8 axes other }
+{
+    let differing = axes ^ other;
+    if differing == 0 {
+        return Ordering::Equal;
+    }
+    if axes >> differing.trailing_zeros() & 1 == 1 {
+        Ordering::Greater
+    } else {
+        Ordering::Less
+    }
+}

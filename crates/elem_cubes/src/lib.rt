@@ -1,0 +1,26 @@
+//! Cells of cubical sets: corners, cells, their order, faces, cofaces and closure, and the laws of the cubical boundary.
+#![tactic(auto)]
+
+mod cell;
+mod closure;
+mod cofaces;
+mod corner;
+mod faces;
+mod laws;
+mod packed;
+mod range;
+
+pub use cell::Cell;
+pub use closure::Closure;
+pub use cofaces::Cofaces;
+pub use corner::Corner;
+pub use faces::Faces;
+pub use laws::{
+    boundary_at_is_boundary, boundary_is_over_cofaces, boundary_of_boundary_is_zero,
+    cells_have_parts, closures_are_faces, cofaces_are_all, faces_are_facets, faces_are_transitive,
+    facets_are_units, order_is_total,
+};
+pub use range::{HIGH, LOW, MAX_EMBEDDING};
+
+#[cfg(test)]
+mod tests;
