@@ -1,0 +1,4 @@
+-- Lemmas by topic.
+pub mod Absent
+pub mod Gaining
+pub mod Held
