@@ -1,3 +1,4 @@
 pub mod Merging
 pub mod Sorting
 pub mod Steps
+pub mod Reading

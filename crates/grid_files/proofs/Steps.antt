@@ -1,5 +1,5 @@
 -- The steps of a merge of two sorted lists, at a place in each.
-use Rattle.std.proofs.Common.{◌≡◌, ℕ, zero, suc, ◌+◌, ◌-◌, ◌<◌, ◌≤◌, List, [], ◌∷◌, ◌++◌, length, drop, get_or, Bool, true, false, ◌||◌, cond, refl, sym, ap, ◌∙◌, subst, arith, filter, append_assoc, add-one, length-append, length-drop, ◌⊎◌, ⊎_elim}
+use Rattle.std.proofs.Common.{◌≡◌, ℕ, zero, suc, ◌+◌, ◌-◌, ◌<◌, ◌≤◌, List, [], ◌∷◌, ◌++◌, length, drop, get_or, Bool, true, false, ◌||◌, cond, refl, sym, ap, ◌∙◌, subst, arith, filter, append_assoc, add-one, length-append, length-drop, ◌⊎◌, ⊎_elim, Option, None, Some, IfNone, IsSome, rules}
 use Rattle.std.specs.List.{list_any}
 use Rattle.std.specs.List.Sorted.{IsStrictlySortedBy}
 use Rattle.std.specs.Cmp.{IsTotalOrder}
@@ -173,3 +173,20 @@ module _ {K : Type 0} (cmp : K → K → Ordering) (o : IsTotalOrder cmp) where
       (λ le. sym (append-nil out) ∙ ap (λ l. out ++ intersection_of cmp l (drop j ys)) (sym (drop_all i xs le)) ∙ e)
       (λ le. sym (append-nil out) ∙ ap (λ l. out ++ l) (sym (common-nil (drop i xs))) ∙ ap (λ l. out ++ intersection_of cmp (drop i xs) l) (sym (drop_all j ys le)) ∙ e)
       ends
+
+inserted-most : {K : Type 0} (cmp : K → K → Ordering) (c : K) (xs : List K) → length (inserted cmp c xs) ≤ suc (length xs)
+inserted-most cmp c [] = omega arith
+inserted-most cmp c (x ∷ xs) =
+    let rest = inserted-most cmp c xs in
+    by_cases (λ ys. length ys ≤ suc (suc (length xs))) (cmp c x) _ _ _ (λ _. omega arith) (λ _. omega arith) (λ _. omega arith)
+
+pub union-most : {K : Type 0} (cmp : K → K → Ordering) (xs ys : List K) → length (union_of cmp xs ys) ≤ length xs + length ys
+union-most cmp [] ys = omega arith
+union-most cmp (x ∷ xs) ys =
+    let rest = union-most cmp xs ys in
+    let one = inserted-most cmp x (union_of cmp xs ys) in omega arith
+
+-- an answer that is nothing only above a limit is something within it
+pub something : {X : Type 0} (r : Option X) (limit n : ℕ) → IfNone r (limit < n) → n ≤ limit → IsSome r
+something None limit n more few = absurd (omega (arith, more))
+something (Some x) limit n more few = search rules

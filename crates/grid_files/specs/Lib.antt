@@ -1,1 +1,5 @@
 pub mod Sorted
+pub mod Sets
+pub mod Pieces
+pub mod Items
+pub mod SetFile

@@ -1,5 +1,5 @@
 //! Sorted lists of distinct values: made, searched and merged.
-ghost use Rattle.std.specs.Prelude.{◌≡◌, ◌≤◌, vec_len, Bool, true, length, IfOk, IfSome, IfNone, ◌<◌, drop};
+ghost use Rattle.std.specs.Prelude.{◌≡◌, ◌≤◌, vec_len, Bool, true, length, IfOk, IfSome, IfNone, ◌<◌, drop, ◌+◌, ◌^◌};
 ghost use Rattle.std.specs.List.{list_all};
 ghost use Rattle.std.specs.List.Sorted.{IsStrictlySortedBy};
 ghost use Rattle.grid_files.specs.Sorted.{has, union_of, intersection_of};
@@ -79,6 +79,17 @@ pub(crate) fn union<T: Ord + Copy>(
     }
     all.extend_from_slice(rest)?;
     Ok(Some(all))
+}
+
+/// The values of both sorted lists.
+pub(crate) fn union_of_all<T: Ord + Copy>(alloc: Global, left: &[T], right: &[T]) -> Result<Vec<T>, AllocError>
+    requires left { IsStrictlySortedBy T.cmp left.now }
+    requires right { IsStrictlySortedBy T.cmp right.now }
+    requires few { length left.now + length right.now < 2 ^ 32 }
+    ensures { IfOk result (λ all. all.items ≡ union_of T.cmp left.now right.now) }
+{
+    let all = union(alloc, left, right, left.len() + right.len())?;
+    Ok(all.unwrap())
 }
 
 /// The values that both sorted lists have.
