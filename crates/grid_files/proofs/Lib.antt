@@ -2,3 +2,4 @@ pub mod Merging
 pub mod Sorting
 pub mod Steps
 pub mod Reading
+pub mod Deciding

@@ -84,7 +84,7 @@ read kind set o start (p ∷ ps) = next (step o p.1)
 
 -- ---- what a step says
 
-abbrev cause_in : Step → Option TextCause
+abbrev pub cause_in : Step → Option TextCause
 cause_in (goes o) = None
 cause_in (closes i) = None
 cause_in (stops c) = Some c
@@ -121,7 +121,7 @@ outer_cause true b = refl
 outer_cause false true = refl
 outer_cause false false = refl
 
-agrees : (o : Open) (p : Piece) → refused o p ≡ cause_in (step o p)
+pub agrees : (o : Open) (p : Piece) → refused o p ≡ cause_in (step o p)
 agrees nothing (Number z) = refl
 agrees nothing Wide = refl
 agrees nothing (Mark b) = outer_cause (b == 40) (b == 91)
@@ -159,11 +159,11 @@ choice : (o : Open) (p : Piece) (b : Bool) (s : Step) (c : TextCause) → refuse
 choice o p true s c e f = f refl
 choice o p false s c e f = e
 
-and_both : (a b : Bool) → a && b ≡ true → (a ≡ true) × (b ≡ true)
+pub and_both : (a b : Bool) → a && b ≡ true → (a ≡ true) × (b ≡ true)
 and_both true b h = (refl, h)
 and_both false b h = cc
 
-both_and : (a b : Bool) → a ≡ true → b ≡ true → a && b ≡ true
+pub both_and : (a b : Bool) → a ≡ true → b ≡ true → a && b ≡ true
 both_and a b h k = rw (h, k) refl
 
 all_more : (test : ℤ → Bool) (xs : List ℤ) (z : ℤ) → list_all test xs ≡ true → test z ≡ true → list_all test (xs ++ z ∷ []) ≡ true
