@@ -3,3 +3,5 @@ pub mod Sorting
 pub mod Steps
 pub mod Reading
 pub mod Deciding
+pub mod Outcomes
+pub mod Scanning

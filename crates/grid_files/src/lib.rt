@@ -2,7 +2,10 @@
 #![tactic(auto)]
 
 mod fault;
+mod laws;
 mod piece;
+mod scanner;
 mod sorted;
 
 pub use fault::{CUBES, Kind, TextCause, TextFault};
+pub use laws::texts_have_one_outcome;
