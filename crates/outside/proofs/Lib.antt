@@ -2,3 +2,6 @@
 pub mod Absent
 pub mod Gaining
 pub mod Held
+pub mod Lexing
+pub mod Runs
+pub mod ScanningLemmas

@@ -1,5 +1,5 @@
 -- Where a lexer stands, and what its calls do.
-use Rattle.std.specs.Prelude.{◌≡◌, ℕ, ◌+◌, ◌-◌, ◌≤◌, List, [], ◌∷◌, length, drop, Option, None, Some, IfNone, false, ◌==◌}
+use Rattle.std.specs.Prelude.{◌≡◌, ℕ, suc, ◌+◌, ◌-◌, ◌≤◌, List, [], ◌∷◌, length, drop, Option, None, Some, IfNone, false, ◌==◌}
 use Rattle.outside.specs.Tokens.{Lexeme, number, wide, arrow, word, mark, other, tokens_behind, lexeme_at, size_behind, is_blank}
 use Rattle.outside.specs.declared.lexer.Token.{Token}
 use Rattle.outside.specs.declared.lexer.Token.TheVariants.{Number, Wide, Arrow, Word, Mark, Other, End}
@@ -27,7 +27,7 @@ listed place (Some t) ts = (place, t) ∷ ts
 -- How many bytes the token at the front has; none at the end.
 abbrev pub size_of : List ℕ → ℕ
 size_of [] = 0
-size_of (b ∷ bs) = size_behind b bs + 1
+size_of (b ∷ bs) = suc (size_behind b bs)
 
 -- The token at the front of a text that begins with no blank and no comment; none at the end.
 abbrev pub token_of : List ℕ → Option Lexeme
@@ -38,6 +38,12 @@ token_of (b ∷ bs) = Some (lexeme_at b bs)
 abbrev pub StandsAt : List ℕ → Type 0
 StandsAt [] = Unit {0}
 StandsAt (b ∷ bs) = (is_blank b ≡ false) × ((b == 59) ≡ false)
+
+-- The rest of a text follows blanks and comments at its front, so that its tokens are those of the text.
+pub record FollowsBlanks (text rest : List ℕ) : Type 0 where
+  pub tokens : (place : ℕ) → tokens_behind 0 place text ≡ tokens_behind 0 (place + (length text - length rest)) rest
+  pub behind : rest ≡ drop (length text - length rest) text
+  pub shorter : length rest ≤ length text
 
 -- So many bytes further on.
 abbrev pub further : ℕ → Standing → Standing

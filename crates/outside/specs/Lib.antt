@@ -3,6 +3,7 @@ pub mod Causes
 pub mod Disk
 pub mod Memory
 pub mod Tokens
+pub mod Scanning
 pub mod Standing
 pub mod Lexing
 pub mod Decimal

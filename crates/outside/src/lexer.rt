@@ -1,8 +1,8 @@
 //! The tokens of a text.
 ghost use Rattle.std.specs.Prelude.{◌≡◌, ◌+◌, ◌-◌, ◌*◌, ◌^◌, ◌<◌, ◌≤◌, ℕ, [], ◌∷◌, length, take, drop, take_while, IfSome, IfNone, Some, None, min};
 ghost use Rattle.std.specs.Char.{is_ascii_alphabetic};
-ghost use Rattle.outside.specs.Tokens.{is_blank, is_mark, digits_of, digits_value, letters_of, line_of, number_of, dashed, dashed_size, tokens_behind};
-ghost use Rattle.outside.specs.Lexing.{said, size_of, token_of, further, Lexes, StandsAt};
+ghost use Rattle.outside.specs.Tokens.{is_blank, is_mark, digits_of, digits_value, letters_of, line_of, number_of, dashed, dashed_size};
+ghost use Rattle.outside.specs.Lexing.{said, size_of, token_of, further, FollowsBlanks, Lexes, StandsAt};
 
 use std::marker::Model;
 
@@ -114,9 +114,7 @@ fn letters_len(bytes: &[u8]) -> usize
 
 // What is left behind the blanks and comments at the front.
 fn skip_blanks(bytes: &[u8]) -> &[u8]
-    ensures same { (place : ℕ) → tokens_behind 0 place bytes.now ≡ tokens_behind 0 (place + (length bytes.now - length result.now)) result.now }
-    ensures behind { result.now ≡ drop (length bytes.now - length result.now) bytes.now }
-    ensures shorter { length result.now ≤ length bytes.now }
+    ensures follows { FollowsBlanks bytes.now result.now }
     ensures stands { StandsAt result.now }
 {
     let mut rest = bytes;

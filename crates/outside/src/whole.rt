@@ -8,7 +8,7 @@ ghost use Rattle.outside.specs.declared.whole.ReadFault.TheVariants.{NoMemory};
 
 use crate::{Failed, Files, Sink};
 use itoa::Buffer;
-use std::alloc::{AllocError, Global};
+use std::alloc::{AllocError as NoMemory, Global};
 use thiserror::Error;
 
 /// Why a file was not read as a whole.
@@ -85,7 +85,7 @@ pub fn send_all<S: Sink>(sink: &mut S, bytes: &[u8]) -> Result<(), Failed>
 }
 
 /// Appends the decimal text of a number. After want of memory the vector is as it was.
-pub fn put_number(to: &mut Vec<u8>, n: i64) -> Result<(), AllocError>
+pub fn put_number(to: &mut Vec<u8>, n: i64) -> Result<(), NoMemory>
     ensures ok { OnOk result (to.new.items ≡ to.old.items ++ decimal n) }
     ensures err { OnErr result (to.new.items ≡ to.old.items) }
 {

@@ -3,7 +3,7 @@ ghost use Rattle.std.specs.Prelude.{◌≡◌, ◌<◌, ◌≤◌, ◌^◌, ◌+
 ghost use Rattle.outside.specs.Told.{Told};
 ghost use Rattle.outside.specs.Causes.{HasCause, NoneFell, more};
 ghost use Rattle.outside.specs.Disk.{held, content, kept, Puts, MayPut, ReadsFrom, Tears};
-ghost use Rattle.outside.specs.Memory.{disk_of, is_among, next_is_to_fail, MakesCall, counted, FailsToAppend};
+ghost use Rattle.outside.specs.Memory.{disk_of, faults_of, given_of, refused_of, is_among, next_fails, AreNew, CountsCall, FailsToAppend};
 
 use crate::{Failed, Files};
 use std::alloc::{AllocError, Global};
@@ -26,13 +26,7 @@ impl MemFiles {
     /// Takes no memory.
     pub fn of(alloc: Global, files: Vec<(String, Vec<u8>)>, failing: Vec<u64>) -> Self
         ensures holds { ⟦<MemFiles as Files>⟧.holds result ≡ Some (held string_bytes (λ b. b.items) files.items) }
-        ensures failing { result.failing.items ≡ failing.items }
-        ensures keeps { result.keeps ≡ 0 }
-        ensures calls { result.calls ≡ 0 }
-        ensures refused { result.refused ≡ 0 }
-        ensures read_faults { ⟦<MemFiles as Files>⟧.read_faults result ≡ (λ _. 0) }
-        ensures write_faults { ⟦<MemFiles as Files>⟧.write_faults result ≡ (λ _. 0) }
-        ensures given { ⟦<MemFiles as Files>⟧.given result ≡ 0 }
+        ensures new { AreNew failing.items 0 result }
     {
         MemFiles {
             alloc,
@@ -48,7 +42,7 @@ impl MemFiles {
 
     /// How many appends failed for a refused growth.
     pub fn refused(&self) -> u64
-        ensures { result ≡ self.now.refused }
+        ensures { result ≡ refused_of self.now }
     {
         self.refused
     }
@@ -71,6 +65,7 @@ pub(crate) fn counts_failing(calls: &mut u64, failing: &[u64]) -> bool
 // The file of that name, by its place.
 pub(crate) fn place_of(files: &[(String, Vec<u8>)], name: &str) -> Option<usize>
     ensures found { IfSome result (λ i. (i < length files.now) × IfSome (slice_get files.now i) (λ f. held string_bytes (λ b. b.items) files.now name.now ≡ Some f.1.items)) }
+    ensures first { IfSome result (λ i. (held string_bytes (λ b. b.items) (take i files.now) name.now ≡ None) × IfSome (slice_get files.now i) (λ f. string_bytes f.0 ≡ name.now)) }
     ensures missing { IfNone result (held string_bytes (λ b. b.items) files.now name.now ≡ None) }
 {
     for i in 0..files.len() {
@@ -94,15 +89,14 @@ impl Files for MemFiles {
         requires { at ≤ 2 ^ 30 }
         ensures bound { IfOk result (λ n. n ≤ length buf.new) }
         ensures bytes { IfOk result (λ n. ReadsFrom (content (disk_of self.old) name.now) at n buf.new) }
-        ensures files { self.new.files.items ≡ self.old.files.items }
-        ensures cause { HasCause self.old.faults self.new.faults result }
-        ensures given { MatchResult result (λ n. self.new.given ≡ more self.old.given n) (λ _. self.new.given ≡ self.old.given) }
+        ensures holds { disk_of self.new ≡ disk_of self.old }
+        ensures cause { HasCause (faults_of self.old) (faults_of self.new) result }
+        ensures given { MatchResult result (λ n. given_of self.new ≡ more (given_of self.old) n) (λ _. given_of self.new ≡ given_of self.old) }
 
         // It fails exactly where its number is to fail or the name is missing, and each failure counts.
-        ensures fails { is_err result ≡ (next_is_to_fail self.old || is_none (disk_of self.old name.now)) }
-        ensures faults { self.new.faults ≡ counted self.old.faults result }
-        ensures call { MakesCall self.old self.new }
-        ensures refused { self.new.refused ≡ self.old.refused }
+        ensures fails { is_err result ≡ (next_fails self.old || is_none (disk_of self.old name.now)) }
+        ensures counts { CountsCall self.old result self.new }
+        ensures refused { refused_of self.new ≡ refused_of self.old }
     {
         if counts_failing(&mut self.calls, &self.failing) {
             self.faults = self.faults.saturating_add(1);
@@ -120,13 +114,12 @@ impl Files for MemFiles {
     fn append(&mut self, name: &str, piece: &[u8], first: bool) -> Result<(), Failed>
         ensures put { OnOk result (Puts name.now (kept first (disk_of self.old) name.now ++ piece.now) (disk_of self.old) (disk_of self.new)) }
         ensures failed { OnErr result (MayPut first name.now piece.now (disk_of self.old) (disk_of self.new)) }
-        ensures cause { HasCause self.old.faults self.new.faults result }
-        ensures given { self.new.given ≡ self.old.given }
+        ensures cause { HasCause (faults_of self.old) (faults_of self.new) result }
+        ensures given { given_of self.new ≡ given_of self.old }
 
         // It fails exactly where its number is to fail or where it raises `refused`, and each failure counts.
         ensures fails { FailsToAppend self.old result self.new first name.now piece.now }
-        ensures faults { self.new.faults ≡ counted self.old.faults result }
-        ensures call { MakesCall self.old self.new }
+        ensures counts { CountsCall self.old result self.new }
     {
         if counts_failing(&mut self.calls, &self.failing) {
             self.faults = self.faults.saturating_add(1);
@@ -154,7 +147,7 @@ fn tear(
     keeps: u64,
 ) -> Result<(), AllocError>
     ensures ok { OnOk result (Tears keeps first name.now piece.now (held string_bytes (λ b. b.items) files.old.items) (held string_bytes (λ b. b.items) files.new.items)) }
-    ensures err { OnErr result (files.new.items ≡ files.old.items) }
+    ensures err { OnErr result (held string_bytes (λ b. b.items) files.new.items ≡ held string_bytes (λ b. b.items) files.old.items) }
 {
     if keeps == 0 {
         return Ok(());
@@ -163,7 +156,7 @@ fn tear(
     put(alloc, files, name, &piece[..taken], first)
 }
 
-// Adds a new version of a file in front of the older ones.
+// Adds a piece to a file, or makes the file with it.
 fn put(
     alloc: Global,
     files: &mut Vec<(String, Vec<u8>)>,
@@ -173,30 +166,20 @@ fn put(
 ) -> Result<(), AllocError>
     ensures ok { OnOk result (Puts name.now (kept first (held string_bytes (λ b. b.items) files.old.items) name.now ++ piece.now)
         (held string_bytes (λ b. b.items) files.old.items) (held string_bytes (λ b. b.items) files.new.items)) }
-    ensures err { OnErr result (files.new.items ≡ files.old.items) }
+    ensures err { OnErr result (held string_bytes (λ b. b.items) files.new.items ≡ held string_bytes (λ b. b.items) files.old.items) }
 {
-    let mut bytes = old_bytes(alloc, files, name, first)?;
-    bytes.extend_from_slice(piece)?;
-    files.insert(0, (String::from_str(alloc, name)?, bytes))?;
-    Ok(())
-}
-
-// What an append keeps of a file.
-fn old_bytes(
-    alloc: Global,
-    files: &[(String, Vec<u8>)],
-    name: &str,
-    first: bool,
-) -> Result<Vec<u8>, AllocError>
-    ensures { IfOk result (λ bytes. bytes.items ≡ kept first (held string_bytes (λ b. b.items) files.now) name.now) }
-{
+    let Some(place) = place_of(files, name) else {
+        let bytes = Vec::from_slice(alloc, piece)?;
+        let name = String::from_str(alloc, name)?;
+        files.push((name, bytes))?;
+        return Ok(());
+    };
     if first {
-        return Ok(Vec::new(alloc));
+        let bytes = Vec::from_slice(alloc, piece)?;
+        files[place].1 = bytes;
+        return Ok(());
     }
-    match place_of(files, name) {
-        Some(place) => files[place].1.as_slice().to_vec(alloc),
-        None => Ok(Vec::new(alloc)),
-    }
+    files[place].1.extend_from_slice(piece)
 }
 
 // Copies what stands from a place on, as far as there is room.

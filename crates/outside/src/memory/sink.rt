@@ -1,5 +1,5 @@
 //! A sink in memory, whose writes fail by number.
-ghost use Rattle.std.specs.Prelude.{◌≡◌, ◌≤◌, Some, [], is_err};
+ghost use Rattle.std.specs.Prelude.{◌≡◌, ◌≤◌, Some, []};
 
 use super::files::counts_failing;
 use crate::{Failed, Sink};
@@ -18,16 +18,14 @@ pub struct MemSink {
 }
 
 impl MemSink {
+    ghost use Rattle.outside.specs.Memory.{IsNew, refused_at};
+
     /// An empty sink that takes at most `most` bytes per call, at least 1, and the numbers of the writes that are to fail.
     /// Takes no memory.
     pub fn of(alloc: Global, failing: Vec<u64>, most: usize) -> Self
         requires { 1 ≤ most }
         ensures written { ⟦<MemSink as Sink>⟧.written result ≡ Some [] }
-        ensures failing { result.failing.items ≡ failing.items }
-        ensures most { result.most ≡ most }
-        ensures calls { result.calls ≡ 0 }
-        ensures refused { result.refused ≡ 0 }
-        ensures faults { ⟦<MemSink as Sink>⟧.faults result ≡ 0 }
+        ensures new { IsNew failing.items most result }
     {
         MemSink {
             bytes: Vec::new(alloc),
@@ -48,17 +46,17 @@ impl MemSink {
 
     /// How many writes failed for a refused growth.
     pub fn refused(&self) -> u64
-        ensures { result ≡ self.now.refused }
+        ensures { result ≡ refused_at self.now }
     {
         self.refused
     }
 }
 
 impl Sink for MemSink {
-    ghost use Rattle.std.specs.Prelude.{◌≡◌, ◌≤◌, Some, is_err, length, IfOk};
+    ghost use Rattle.std.specs.Prelude.{◌≤◌, Some, length, IfOk};
     ghost use Rattle.outside.specs.Told.{Writes};
     ghost use Rattle.outside.specs.Causes.{HasCause, CountsStalls};
-    ghost use Rattle.outside.specs.Memory.{MakesWrite, TakesOf, counted};
+    ghost use Rattle.outside.specs.Memory.{CountsWrite, TakesMost, faults_at, written_to};
 
     ghost written = { λ s. Some s.bytes.items };
 
@@ -66,14 +64,13 @@ impl Sink for MemSink {
 
     fn write(&mut self, piece: &[u8]) -> Result<usize, Failed>
         ensures bound { IfOk result (λ n. n ≤ length piece.now) }
-        ensures bytes { Writes (Some self.old.bytes.items) (Some self.new.bytes.items) result piece.now }
-        ensures cause { HasCause self.old.faults self.new.faults result }
-        ensures stalls { CountsStalls self.old.faults self.new.faults result piece.now }
+        ensures bytes { Writes (Some (written_to self.old)) (Some (written_to self.new)) result piece.now }
+        ensures cause { HasCause (faults_at self.old) (faults_at self.new) result }
+        ensures stalls { CountsStalls (faults_at self.old) (faults_at self.new) result piece.now }
 
-        // It fails exactly where its number is to fail or where it raises `refused`, and each failure counts.
-        ensures takes { TakesOf self.old result self.new piece.now }
-        ensures faults { self.new.faults ≡ counted self.old.faults result }
-        ensures call { MakesWrite self.old self.new }
+        // It takes as much as it may, and fails exactly where its number is to fail or where it raises `refused`.
+        ensures takes { TakesMost self.old result self.new piece.now }
+        ensures counts { CountsWrite self.old result self.new }
     {
         if counts_failing(&mut self.calls, &self.failing) {
             self.faults = self.faults.saturating_add(1);

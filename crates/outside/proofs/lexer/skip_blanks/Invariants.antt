@@ -1,13 +1,9 @@
-use Rattle.std.proofs.Common.{◌≡◌, ◌≤◌, ◌+◌, ◌-◌, ℕ, length, drop}
-use Rattle.outside.specs.Tokens.{tokens_behind}
+use Rattle.std.proofs.Common.{length}
+use Rattle.outside.specs.Lexing.{FollowsBlanks}
 use Rattle.outside.proofs.lexer.skip_blanks.Given as goal
 
 abbrev pub invariant-loop-rest : goal.invariant-loop-rest
-invariant-loop-rest l = record {
-  same : (place : ℕ) → tokens_behind 0 place l.bytes ≡ tokens_behind 0 (place + (length l.bytes - length l.rest)) l.rest;
-  behind : l.rest ≡ drop (length l.bytes - length l.rest) l.bytes;
-  shorter : length l.rest ≤ length l.bytes;
-}
+invariant-loop-rest l = FollowsBlanks l.bytes l.rest
 
 abbrev pub decreases-loop-rest : goal.decreases-loop-rest
 decreases-loop-rest l = length l.rest

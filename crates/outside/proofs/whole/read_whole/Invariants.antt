@@ -1,4 +1,4 @@
-use Rattle.std.proofs.Common.{◌≡◌, ◌+◌, ◌-◌, ◌≤◌, ◌^◌, length, take, IfSome, ℕ}
+use Rattle.std.proofs.Common.{◌≡◌, ◌+◌, ◌-◌, ◌≤◌, ◌^◌, length, take, IfSome}
 use Rattle.outside.specs.Causes.{NoneFell, more}
 use Rattle.outside.specs.Disk.{content}
 use Rattle.outside.proofs.whole.read_whole.Given as goal

@@ -1,4 +1,4 @@
-use Rattle.std.proofs.Common.{length, take, drop, length-take, arith}
+use Rattle.std.proofs.Common.{drop, length-take, arith}
 use Rattle.outside.proofs.Held.{front_of}
 use Rattle.outside.proofs.memory.files.copy_from.Goals as goal
 
