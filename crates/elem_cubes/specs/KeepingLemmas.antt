@@ -37,6 +37,7 @@ axes-cell_of (l ∷ ls) a h =
 pub unpacked : (ends : List ℤ) (len axes : ℕ) → KeepsCell ends len axes
     → (padded MAX_EMBEDDING (lower_of (cell_of (take len ends) axes)) ≡ ends) × (length (cell_of (take len ends) axes) ≡ len) × (axes_of (cell_of (take len ends) axes) ≡ axes)
 unpacked ends len axes k = (
-    ap (padded MAX_EMBEDDING) (lower-cell_of (take len ends) axes) ∙ sym k.rest,
-    length-cell_of (take len ends) axes ∙ k.long,
-    axes-cell_of (take len ends) axes (rw k.long k.few))
+  ap (padded MAX_EMBEDDING) (lower-cell_of (take len ends) axes) ∙ sym k.rest,
+  length-cell_of (take len ends) axes ∙ k.long,
+  axes-cell_of (take len ends) axes (rw k.long k.few),
+)

@@ -53,8 +53,8 @@ pub same_cell_equivalence : IsEquivalence same_cell
 same_cell_equivalence = record {
   refl = cell_refl;
   symm = λ q r. both_ways (same_cell q r) (same_cell r q)
-    (λ e. (same_cell-Decides r q).1 (sym ((same_cell-Decides q r).0 e)))
-    (λ e. (same_cell-Decides q r).1 (sym ((same_cell-Decides r q).0 e)));
+      (λ e. (same_cell-Decides r q).1 (sym ((same_cell-Decides q r).0 e)))
+      (λ e. (same_cell-Decides q r).1 (sym ((same_cell-Decides r q).0 e)));
   congr = λ q r s e. ap (λ t. same_cell t s) ((same_cell-Decides q r).0 e);
 }
 

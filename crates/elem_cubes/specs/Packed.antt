@@ -1,14 +1,12 @@
 -- Corners and cells as they are kept: coordinates padded to one length, which are compared and hashed two at a time.
-use Rattle.std.specs.Prelude.{◌≡◌, ℕ, zero, suc, ◌-◌, ◌^◌, ◌%◌, ◌/◌, ◌<◌, ℤ, pos, ◌+ℤ◌, ◌*ℤ◌, List, [], ◌∷◌, ◌++◌, length, take, replicate, IsTrue}
+use Rattle.std.specs.Prelude.{◌≡◌, ℕ, ◌-◌, ◌^◌, ◌<◌, ℤ, pos, ◌+ℤ◌, ◌*ℤ◌, List, [], ◌∷◌, ◌++◌, length, take, replicate, IsTrue}
 use Rattle.std.specs.List.{flat_map}
 use Rattle.std.specs.Hash as fed
-use Rattle.std.specs.Ordering.{ordering_then, nat_cmp}
 use Rattle.std.specs.declared.cmp.Ordering.{Ordering}
-use Rattle.std.specs.declared.cmp.Ordering.TheVariants.{Equal}
 use Rattle.elem_cubes.specs.declared.range.TheConstants.{MAX_EMBEDDING}
 use Rattle.elem_cubes.specs.declared.packed.TheConstants.{PADDING}
-use Rattle.elem_cubes.specs.Corners.{is_corner}
-use Rattle.elem_cubes.specs.Cells.{Factor, cell_of, is_cell, lower_of, axes_of}
+use Rattle.elem_cubes.specs.Corners.{is_corner, corner_cmp}
+use Rattle.elem_cubes.specs.Cells.{Factor, cell_of, is_cell, lower_of, upper_of, axes_of}
 
 -- the coordinates, and what stands below every coordinate
 abbrev pub padded : ℕ → List ℤ → List ℤ
@@ -36,10 +34,10 @@ pub record KeepsCell (ends : List ℤ) (len axes : ℕ) : Type 0 where
   pub few : axes < 2 ^ len
   pub cell : IsTrue (is_cell (cell_of (take len ends) axes))
 
--- the order of sets of axes, of which the first n count: where they differ first, the one without the axis is less
-abbrev pub axes_cmp : ℕ → ℕ → ℕ → Ordering
-axes_cmp zero a b = Equal
-axes_cmp (suc n) a b = ordering_then (nat_cmp (a % 2) (b % 2)) (axes_cmp n (a / 2) (b / 2))
+-- the order of the upper corners of any two cells with one lower corner and these axes
+abbrev pub OrdersUppers : ℕ → ℕ → Ordering → Type 0
+OrdersUppers a b order =
+    (ls : List ℤ) → a < 2 ^ length ls → b < 2 ^ length ls → order ≡ corner_cmp (upper_of (cell_of ls a)) (upper_of (cell_of ls b))
 
 -- what a cell feeds a hasher: its words and its axes
 abbrev pub cell_writes : List Factor → List (List ℕ)

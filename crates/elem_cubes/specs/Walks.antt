@@ -1,5 +1,5 @@
 -- Walks along the axes of a cell: what an iterator over faces or cofaces has left, and over the closure.
-use Rattle.std.specs.Prelude.{◌≡◌, Some, ℕ, ◌+◌, ◌*◌, ◌/◌, ◌%◌, ◌≤◌, ℤ, pos, ◌+ℤ◌, List, [], ◌∷◌, ◌++◌, length, take, drop, map, Bool, true, false, if◌then◌else◌, IsTrue, slice_get, ◌==◌}
+use Rattle.std.specs.Prelude.{◌≡◌, ℕ, ◌+◌, ◌*◌, ◌/◌, ◌%◌, ◌≤◌, ℤ, pos, ◌+ℤ◌, List, [], ◌∷◌, ◌++◌, length, take, drop, map, Bool, true, false, if◌then◌else◌, ◌<◌, slice_index_or}
 use Rattle.std.specs.Ordering.{int_eq}
 use Rattle.elem_cubes.specs.Cells.{Factor, point, interval, is_wide}
 use Rattle.elem_cubes.specs.Faces.{turned, behind, changed, closure_of}
@@ -26,7 +26,7 @@ left change q axis second = map (behind_all (take axis q)) (drop (if second then
 pub record KeepsWalk (change : Factor → List (Factor × ℤ)) (q : List Factor) (axis : ℕ) (second : Bool) (sign : ℤ) : Type 0 where
   pub within : axis ≤ length q
   pub signed : sign ≡ sign_behind (take axis q)
-  pub twice : second ≡ true → (f : Factor) → slice_get q axis ≡ Some f → length (change f) ≡ 2
+  pub twice : second ≡ true → (axis < length q) × (length (change (slice_index_or q axis (point (pos 0)))) ≡ 2)
 
 -- so many of a list were given
 pub record KeepsCount {A : Type 0} (items : List A) (next count : ℕ) : Type 0 where

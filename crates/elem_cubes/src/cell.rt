@@ -8,7 +8,7 @@ ghost use Rattle.std.specs.Ordering.{as_partial_cmp};
 ghost use Rattle.elem_cubes.specs.Cells.{point, interval, low, is_wide, is_factor, is_file_factor, is_cell, lower_of, upper_of, axes_of, cell_of, full_cell, dimension_of, same_cell};
 ghost use Rattle.elem_cubes.specs.Faces.{IsFace, faces_of, cofaces_of, closure_of, is_part, is_face};
 ghost use Rattle.elem_cubes.specs.Order.{cell_cmp};
-ghost use Rattle.elem_cubes.specs.Packed.{words_of, axes_cmp, cell_writes};
+ghost use Rattle.elem_cubes.specs.Packed.{words_of, OrdersUppers, cell_writes};
 
 use crate::closure::Closure;
 use crate::cofaces::Cofaces;
@@ -188,7 +188,7 @@ impl Cell {
         requires { i < length self.now }
         ensures { result ≡ low (slice_index_or self.now i (point (pos 0))) }
     {
-        self.ends[i]
+        self.low_ends()[i]
     }
 
     /// The cell with a point on the axis `i`.
@@ -272,15 +272,13 @@ fn is_file_factor(end: i32, wide: bool) -> bool
 
 /// The upper ends of the factors of these coordinates and axes.
 fn upper_ends(ends: &[i32; MAX_EMBEDDING], axes: u8) -> [i32; MAX_EMBEDDING]
-    requires { IsTrue (list_all (λ f. int_lt (low f) i32.MAX) (cell_of ends.now axes)) }
+    requires { IsTrue (list_all (λ e. int_lt e i32.MAX) ends.now) }
     ensures { result ≡ upper_of (cell_of ends.now axes) }
 {
     let mut uppers = *ends;
     let mut rest = axes;
     for i in 0..MAX_EMBEDDING {
-        if rest % 2 == 1 {
-            uppers[i] = ends[i] + 1;
-        }
+        uppers[i] = ends[i] + i32::from(rest % 2);
         rest /= 2;
     }
     uppers
@@ -374,9 +372,10 @@ impl Hash for Cell {
     }
 }
 
-/// The order of two sets of axes: where they differ first, the one without the axis is less.
+/// The order of the upper corners of two cells with one lower corner: where their axes differ first, the cell without
+/// the axis is less.
 fn compare_axes(axes: u8, other: u8) -> Ordering
-    ensures { result ≡ axes_cmp 8 axes other }
+    ensures { OrdersUppers axes other result }
 {
     let differing = axes ^ other;
     if differing == 0 {

@@ -1,6 +1,6 @@
 //! The faces of one dimension less, one by one.
 ghost use Rattle.std.specs.Prelude.{◌≡◌, ◌+◌, ◌<◌, ◌≤◌, length, drop, not};
-ghost use Rattle.std.specs.List.{take_while};
+ghost use Rattle.std.specs.List.{prefix_len};
 ghost use Rattle.std.specs.Iterator.{YieldsFirst, item_count};
 ghost use Rattle.elem_cubes.specs.Cells.{is_wide};
 ghost use Rattle.elem_cubes.specs.Faces.{faces_of};
@@ -74,7 +74,7 @@ impl Iterator for Faces {
 /// The first axis from here on along which the cell is an interval, or a point, or else the number of axes.
 pub(crate) fn next_axis(cell: &Cell, from: usize, wide: bool) -> usize
     requires { from ≤ length cell.now }
-    ensures { result ≡ from + length (take_while (is_wide_as (not wide)) (drop from cell.now)) }
+    ensures { result ≡ from + prefix_len (is_wide_as (not wide)) (drop from cell.now) }
 {
     let mut axis = from;
     while axis < cell.len() && cell.is_wide(axis) != wide {
