@@ -5,3 +5,4 @@ pub mod Reading
 pub mod Deciding
 pub mod Outcomes
 pub mod Scanning
+pub mod SetLemmas

@@ -48,7 +48,7 @@ module _ {K : Type 0} (cmp : K → K → Ordering) (o : IsTotalOrder cmp) where
       (λ lt. not_equal_less (cmp (get_or xs k d) x) (split.0 k d (omega arith) lt))
       (λ le. not_equal_greater (cmp (get_or xs k d) x) (split.1 k d le inside)) (cases_lt k i)))
 
-  equal_from : (a : Ordering) → is_eq a ≡ true → a ≡ Equal
+  pub equal_from : (a : Ordering) → is_eq a ≡ true → a ≡ Equal
   equal_from Less e = cc
   equal_from Equal e = refl
   equal_from Greater e = cc

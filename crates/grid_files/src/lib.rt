@@ -1,11 +1,13 @@
 //! Sets of cells: set files, read and written, and the algebra of sets.
 #![tactic(auto)]
 
+mod cube_set;
 mod fault;
 mod laws;
 mod piece;
 mod scanner;
 mod sorted;
 
+pub use cube_set::CubeSet;
 pub use fault::{CUBES, Kind, TextCause, TextFault};
 pub use laws::texts_have_one_outcome;
