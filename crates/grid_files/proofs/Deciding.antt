@@ -11,7 +11,8 @@ use Rattle.grid_files.specs.declared.fault.TextCause.{TextCause}
 use Rattle.grid_files.specs.declared.fault.TextCause.TheVariants.{Unclosed}
 use Rattle.grid_files.specs.declared.piece.Piece.{Piece}
 use Rattle.grid_files.specs.declared.piece.Piece.TheVariants.{Number, Mark, SkippedLine, DimensionWord, DimensionNumber}
-use Rattle.grid_files.proofs.Reading.{Step, goes, closes, stops, in_corner, step, next, judged, start_of, closing_place, Outcome, read, agrees, cause_in, and_both, both_and}
+use Rattle.grid_files.specs.Reading.{Step, goes, closes, stops, in_corner, step, next, judged, start_of, closing_place, Outcome, read}
+use Rattle.grid_files.proofs.Reading.{agrees, cause_in, and_both, both_and}
 
 -- the first of some pieces, and a cut between them
 split_first : (here : List (ℕ × Piece)) (p : Piece) (ps : List Piece) → said here ≡ p ∷ ps

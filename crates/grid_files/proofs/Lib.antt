@@ -6,3 +6,5 @@ pub mod Deciding
 pub mod Outcomes
 pub mod Scanning
 pub mod SetLemmas
+pub mod Corners
+pub mod Openings

@@ -8,7 +8,8 @@ use Rattle.grid_files.specs.Laws.{TextsHaveOneOutcome}
 use Rattle.grid_files.specs.declared.fault.Kind.{Kind}
 use Rattle.grid_files.specs.declared.fault.TextCause.{TextCause}
 use Rattle.grid_files.specs.declared.piece.Piece.{Piece}
-use Rattle.grid_files.proofs.Reading.{Outcome, Told, told, read}
+use Rattle.grid_files.specs.Reading.{Outcome, read}
+use Rattle.grid_files.proofs.Reading.{Told, told}
 use Rattle.grid_files.proofs.Deciding.{value_read, refusal_read}
 
 some_outcome : (kind : Kind) (text : List ℕ) (r : Outcome) → Told kind no_members (pieces text) r

@@ -5,3 +5,6 @@ pub mod Items
 pub mod SetFile
 pub mod Laws
 pub mod Scanning
+pub mod Reading
+pub mod Corners
+pub mod Openings

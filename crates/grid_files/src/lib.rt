@@ -1,9 +1,11 @@
 //! Sets of cells: set files, read and written, and the algebra of sets.
 #![tactic(auto)]
 
+mod corner;
 mod cube_set;
 mod fault;
 mod laws;
+mod opening;
 mod piece;
 mod scanner;
 mod sorted;
