@@ -105,3 +105,15 @@ point_few n a b h = omega (arith, and_le_l a b)
 
 pub interval_few : (n a i : ℕ) → a < 2 ^ n → i < n → n ≤ 8 → bit_or a (1 * 2 ^ i % 2 ^ 8) < 2 ^ n
 interval_few n a i h s w = or_lt n a (1 * 2 ^ i % 2 ^ 8) h (let e = one_shl i 8 (omega arith) in let k = pow_below i n s in omega arith)
+
+-- a cell is its lower corner and its axes
+pub parts_of_cell : (q : List Factor) → cell_of (lower_of q) (axes_of q) ≡ q
+parts_of_cell [] = refl
+parts_of_cell (point l ∷ qs) =
+    let m : 2 * axes_of qs % 2 ≡ 0 = omega arith in
+    let n : 2 * axes_of qs / 2 ≡ axes_of qs = omega arith in
+    λ i. factor_of (eqb (m i) 1) l ∷ (ap (cell_of (lower_of qs)) n ∙ parts_of_cell qs) i
+parts_of_cell (interval l ∷ qs) =
+    let m : (1 + 2 * axes_of qs) % 2 ≡ 1 = omega arith in
+    let n : (1 + 2 * axes_of qs) / 2 ≡ axes_of qs = omega arith in
+    λ i. factor_of (eqb (m i) 1) l ∷ (ap (cell_of (lower_of qs)) n ∙ parts_of_cell qs) i

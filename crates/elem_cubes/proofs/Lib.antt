@@ -6,3 +6,8 @@ pub mod Uppers
 pub mod Uses
 pub mod FaceLemmas
 pub mod Making
+pub mod Walking
+pub mod Choosing
+pub mod Modular
+pub mod Boundaries
+pub mod Signs

@@ -1,13 +1,14 @@
 //! Cells: elementary cubes.
-ghost use Rattle.std.specs.Prelude.{◌≡◌, ◌<◌, ◌≤◌, ◌^◌, ◌↔◌, ◌++◌, ◌&&◌, ◌*◌, ℤ, pos, negsuc, ◌+ℤ◌, List, length, slice_get, slice_set, slice_index_or, int_lt, ◌-◌, IsTrue, nat_lt, if◌then◌else◌};
+ghost use Rattle.std.specs.Prelude.{◌≡◌, ◌<◌, ◌≤◌, ◌^◌, ◌↔◌, ◌++◌, ◌&&◌, ◌*◌, ℤ, pos, negsuc, ◌+ℤ◌, List, length, slice_get, slice_set, int_lt, true, ◌-◌, IsTrue, nat_lt, if◌then◌else◌};
 ghost use Rattle.std.proofs.Common.{rules};
 ghost use Rattle.std.specs.Hash as fed;
 ghost use Rattle.std.specs.List.{flat_map, list_all};
 ghost use Rattle.std.specs.Cmp.Rules.{comparing};
 ghost use Rattle.std.specs.Ordering.{as_partial_cmp};
-ghost use Rattle.elem_cubes.specs.Cells.{point, interval, low, is_wide, is_factor, is_file_factor, is_cell, lower_of, upper_of, axes_of, cell_of, full_cell, dimension_of, same_cell};
+ghost use Rattle.elem_cubes.specs.Cells.{point, interval, low, high, is_wide, is_factor, is_file_factor, is_cell, lower_of, upper_of, axes_of, cell_of, full_cell, dimension_of, same_cell};
 ghost use Rattle.elem_cubes.specs.Faces.{IsFace, faces_of, cofaces_of, closure_of, is_part, is_face};
 ghost use Rattle.elem_cubes.specs.Order.{cell_cmp};
+ghost use Rattle.elem_cubes.specs.Walks.{factor_at};
 ghost use Rattle.elem_cubes.specs.Packed.{words_of, OrdersUppers, cell_writes};
 
 use crate::closure::Closure;
@@ -103,7 +104,8 @@ impl Cell {
     /// The dimension: the number of intervals.
     pub fn dim(&self) -> u32
         ensures dimension { result ≡ dimension_of self.now }
-        ensures few { result ≤ length self.now }
+        ensures within { result ≤ length self.now }
+        ensures few { result ≤ MAX_EMBEDDING }
     {
         self.axes.count_ones()
     }
@@ -178,21 +180,58 @@ impl Cell {
     /// Whether the factor on the axis `i` is an interval.
     pub(crate) fn is_wide(&self, i: usize) -> bool
         requires { i < length self.now }
-        ensures { result ≡ is_wide (slice_index_or self.now i (point (pos 0))) }
+        ensures { result ≡ is_wide (factor_at self.now i) }
     {
         self.axes >> i & 1 == 1
     }
 
-    /// The lower end of the factor on the axis `i`.
-    pub(crate) fn low(&self, i: usize) -> i32
+    /// The cell with the lower end of the factor on the axis `i` in its place.
+    pub(crate) fn lower_end(&self, i: usize) -> Cell
         requires { i < length self.now }
-        ensures { result ≡ low (slice_index_or self.now i (point (pos 0))) }
+        ensures { result ≡ slice_set self.now i (point (low (factor_at self.now i))) }
     {
+        self.with_point(i, self.low(i))
+    }
+
+    /// The cell with the upper end of the interval on the axis `i` in its place.
+    pub(crate) fn upper_end(&self, i: usize) -> Cell
+        requires axis { i < length self.now }
+        requires wide { is_wide (factor_at self.now i) ≡ true }
+        ensures { result ≡ slice_set self.now i (point (high (factor_at self.now i))) }
+    {
+        self.with_point(i, self.low(i) + 1)
+    }
+
+    /// The cell with the interval that begins at the point on the axis `i` in its place.
+    pub(crate) fn upward(&self, i: usize) -> Cell
+        requires axis { i < length self.now }
+        requires range { IsTrue (list_all is_file_factor self.now) }
+        ensures { result ≡ slice_set self.now i (interval (low (factor_at self.now i))) }
+    {
+        self.with_interval(i, self.low(i))
+    }
+
+    /// The cell with the interval that ends at the point on the axis `i` in its place.
+    pub(crate) fn downward(&self, i: usize) -> Cell
+        requires axis { i < length self.now }
+        requires range { IsTrue (list_all is_file_factor self.now) }
+        ensures { result ≡ slice_set self.now i (interval (low (factor_at self.now i) +ℤ negsuc 0)) }
+    {
+        self.with_interval(i, self.low(i) - 1)
+    }
+
+    /// The lower end of the factor on the axis `i`.
+    fn low(&self, i: usize) -> i32
+        requires { i < length self.now }
+        ensures low { result ≡ low (factor_at self.now i) }
+        ensures factor { IsTrue (is_factor (factor_at self.now i)) }
+    {
+        let _ = &self.ends;
         self.low_ends()[i]
     }
 
     /// The cell with a point on the axis `i`.
-    pub(crate) fn with_point(&self, i: usize, end: i32) -> Cell
+    fn with_point(&self, i: usize, end: i32) -> Cell
         requires axis { i < length self.now }
         requires fits { IsTrue (is_factor (point end)) }
         ensures { result ≡ slice_set self.now i (point end) }
@@ -207,7 +246,7 @@ impl Cell {
     }
 
     /// The cell with an interval on the axis `i`.
-    pub(crate) fn with_interval(&self, i: usize, end: i32) -> Cell
+    fn with_interval(&self, i: usize, end: i32) -> Cell
         requires axis { i < length self.now }
         requires fits { IsTrue (is_factor (interval end)) }
         ensures { result ≡ slice_set self.now i (interval end) }

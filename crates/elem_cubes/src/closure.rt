@@ -1,7 +1,8 @@
 //! All faces of a cell, one by one.
-ghost use Rattle.std.specs.Prelude.{◌≡◌, ◌<◌, length, slice_get};
+ghost use Rattle.std.specs.Prelude.{◌≡◌, ◌<◌, ◌%◌, ◌/◌, length, slice_set, slice_index_or, if◌then◌else◌};
 ghost use Rattle.std.specs.Iterator.{YieldsFirst, item_count};
-ghost use Rattle.elem_cubes.specs.Faces.{closure_of};
+ghost use Rattle.elem_cubes.specs.Faces.{closure_of, parts_of};
+ghost use Rattle.elem_cubes.specs.Walks.{factor_at, face_at};
 
 use crate::cell::Cell;
 use std::marker::Model;
@@ -56,26 +57,41 @@ impl Iterator for Closure {
     }
 }
 
-/// The face at this place of the closure: the digits of the place in base 3 choose a part of each interval.
+/// The face at this place of the closure: the remainders of the place choose a part of each factor.
 fn face_at(cell: &Cell, place: u32) -> Cell
-    requires { place < length (closure_of cell.now) }
-    ensures { slice_get (closure_of cell.now) place ≡ Some result }
+    ensures { result ≡ face_at cell.now place }
 {
     let mut face = *cell;
     let mut rest = place;
     for i in 0..cell.len() {
-        if cell.is_wide(i) {
-            face = with_part(&face, i, rest % 3);
-            rest /= 3;
-        }
+        let (digit, further) = split(rest, cell.is_wide(i));
+        face = with_part(&face, i, digit);
+        rest = further;
     }
     face
 }
 
-fn with_part(cell: &Cell, i: usize, part: u32) -> Cell {
-    match part {
-        0 => cell.with_point(i, cell.low(i)),
+/// The remainder and the quotient by the number of parts of a factor.
+fn split(rest: u32, wide: bool) -> (u32, u32)
+    ensures digit { result.0 ≡ rest % (if wide then 3 else 1) }
+    ensures further { result.1 ≡ rest / (if wide then 3 else 1) }
+{
+    if wide {
+        (rest % 3, rest / 3)
+    } else {
+        (0, rest)
+    }
+}
+
+/// The cell with a part of a factor in its place: the lower end, the interval or the upper end.
+fn with_part(cell: &Cell, i: usize, digit: u32) -> Cell
+    requires axis { i < length cell.now }
+    requires part { digit < length (parts_of (factor_at cell.now i)) }
+    ensures { result ≡ slice_set cell.now i (slice_index_or (parts_of (factor_at cell.now i)) digit (factor_at cell.now i)) }
+{
+    match digit {
+        0 => cell.lower_end(i),
         1 => *cell,
-        _ => cell.with_point(i, cell.low(i) + 1),
+        _ => cell.upper_end(i),
     }
 }

@@ -6,7 +6,7 @@ ghost use Rattle.elem_cubes.specs.Cells.{is_file_factor};
 ghost use Rattle.elem_cubes.specs.Faces.{cofaces_of};
 
 use crate::cell::Cell;
-use crate::faces::next_axis;
+use crate::faces::{next_axis, sign_of};
 use std::marker::Model;
 
 /// The cells of one dimension more that have a cell as a face and are left to come, with its signs in their boundaries.
@@ -15,11 +15,11 @@ pub struct Cofaces {
     cell: Cell,
     axis: usize,
     second: bool,
-    sign: i8,
+    negative: bool,
 }
 
 impl Model for Cofaces {
-    ghost use Rattle.std.specs.Prelude.{List, ℤ, IsTrue};
+    ghost use Rattle.std.specs.Prelude.{List, ℤ, false, IsTrue};
     ghost use Rattle.std.specs.List.{list_all};
     ghost use Rattle.elem_cubes.specs.Cells.{Factor, is_file_factor};
     ghost use Rattle.elem_cubes.specs.Faces.{intervals_at};
@@ -29,7 +29,7 @@ impl Model for Cofaces {
 
     ghost view = { λ s. left intervals_at s.cell s.axis s.second };
 
-    ghost invariant = { λ s. KeepsWalk intervals_at s.cell s.axis s.second s.sign × IsTrue (list_all is_file_factor s.cell) };
+    ghost invariant = { λ s. KeepsWalk false s.cell s.axis s.second s.negative × IsTrue (list_all is_file_factor s.cell) };
 }
 
 impl Cofaces {
@@ -41,7 +41,7 @@ impl Cofaces {
             cell,
             axis: 0,
             second: false,
-            sign: 1,
+            negative: false,
         }
     }
 }
@@ -55,23 +55,18 @@ impl Iterator for Cofaces {
 
     fn next(&mut self) -> Option<(Cell, i8)> {
         if self.second {
-            let coface = self
-                .cell
-                .with_interval(self.axis, self.cell.low(self.axis) - 1);
+            let coface = self.cell.downward(self.axis);
             self.second = false;
             self.axis += 1;
-            return Some((coface, self.sign));
+            return Some((coface, sign_of(self.negative)));
         }
-        let axis = next_axis(&self.cell, self.axis, false);
-        if (axis - self.axis) % 2 == 1 {
-            self.sign = -self.sign;
-        }
+        let (axis, negative) = next_axis(&self.cell, self.axis, self.negative, false);
         self.axis = axis;
+        self.negative = negative;
         if axis == self.cell.len() {
             return None;
         }
         self.second = true;
-        let coface = self.cell.with_interval(axis, self.cell.low(axis));
-        Some((coface, -self.sign))
+        Some((self.cell.upward(axis), sign_of(!negative)))
     }
 }
