@@ -11,3 +11,6 @@ pub mod Choosing
 pub mod Modular
 pub mod Boundaries
 pub mod Signs
+pub mod Members
+pub mod Zeros
+pub mod Listing
