@@ -31,8 +31,8 @@ one_outcome = record {
   some = λ kind text. some_outcome kind text (read kind no_members nothing 0 (pieces text)) (told kind no_members (pieces text));
   one_value = λ kind text set other h k. same_value _ set other (value_read kind no_members set (pieces text) h) (value_read kind no_members other (pieces text) k);
   one_place = λ kind text place other cause why h k.
-    let e = same_refusal _ (place, cause) (other, why) (refusal_read kind no_members (pieces text) place cause h) (refusal_read kind no_members (pieces text) other why k) in
-    (ap (λ e. e.0) e, ap (λ e. e.1) e);
+      let e = same_refusal _ (place, cause) (other, why) (refusal_read kind no_members (pieces text) place cause h) (refusal_read kind no_members (pieces text) other why k) in
+      (ap (λ e. e.0) e, ap (λ e. e.1) e);
   never_both = λ kind text set place cause h k.
-    no_outcome _ set (place, cause) (value_read kind no_members set (pieces text) h) (refusal_read kind no_members (pieces text) place cause k);
+      no_outcome _ set (place, cause) (value_read kind no_members set (pieces text) h) (refusal_read kind no_members (pieces text) place cause k);
 }

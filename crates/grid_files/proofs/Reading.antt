@@ -165,10 +165,14 @@ says (before_upper ls) p h = mark_says (before_upper ls) 40 (goes (in_upper ls [
 says (in_upper ls us) p h =
     let both = and_both (fits_corner is_file_end ls) (list_all is_file_end us) h in
     corner_says (in_upper ls us) is_file_end (in_upper ls) (goes (before_end ls us)) us (λ p. refl)
-    (λ z k. (ap (λ ps. Mark 91 ∷ (closed ls ++ ps)) (number_more us z) ∙ ap (λ ps. Mark 91 ∷ ps) (sym (append_assoc (closed ls) (opened us) (Number z ∷ []))),
-    both_and (fits_corner is_file_end ls) (list_all is_file_end (us ++ z ∷ [])) both.0 (all_more is_file_end us z both.1 k)))
-    (λ k. (ap (λ ps. Mark 91 ∷ ps) (sym (append_assoc (closed ls) (opened us) (Mark 41 ∷ []))),
-    both_and (fits_corner is_file_end ls) (fits_corner is_file_end us) both.0 (both_and (not (is_empty us)) (list_all is_file_end us) k both.1))) p
+    (λ z k. (
+      ap (λ ps. Mark 91 ∷ (closed ls ++ ps)) (number_more us z) ∙ ap (λ ps. Mark 91 ∷ ps) (sym (append_assoc (closed ls) (opened us) (Number z ∷ []))),
+      both_and (fits_corner is_file_end ls) (list_all is_file_end (us ++ z ∷ [])) both.0 (all_more is_file_end us z both.1 k),
+    ))
+    (λ k. (
+      ap (λ ps. Mark 91 ∷ ps) (sym (append_assoc (closed ls) (opened us) (Mark 41 ∷ []))),
+      both_and (fits_corner is_file_end ls) (fits_corner is_file_end us) both.0 (both_and (not (is_empty us)) (list_all is_file_end us) k both.1),
+    )) p
 says (before_end ls us) p h = mark_says (before_end ls us) 93 (closes (elementary ls us)) (λ p. refl) (refl, h) p
 says behind_word (Number z) h = refl
 says behind_word Wide h = refl

@@ -92,7 +92,7 @@ union_is_set a b ia ib agree few = record {
   axes = let x = ia.axes in let y = ib.axes in omega arith;
   unknown = λ e. no_cells cell_cmp a.cells b.cells (ia.unknown (omega arith)) (ib.unknown (omega arith));
   alike = let cases = agree_cases a.dimension b.dimension agree in
-    all-union cell_cmp (is_member (max a.dimension b.dimension)) a.cells b.cells (widened a _ ia cases.0) (widened b _ ib cases.1);
+      all-union cell_cmp (is_member (max a.dimension b.dimension)) a.cells b.cells (widened a _ ia cases.0) (widened b _ ib cases.1);
   sorted = sorted-union cell_cmp cell_cmp_total a.cells b.cells ib.sorted;
   few = omega (arith, union-most cell_cmp a.cells b.cells);
 }
@@ -103,7 +103,7 @@ intersection_is_set a b ia ib agree = record {
   axes = let x = ia.axes in let y = ib.axes in omega arith;
   unknown = λ e. ap (λ l. intersection_of cell_cmp l b.cells) (ia.unknown (omega arith));
   alike = let cases = agree_cases a.dimension b.dimension agree in
-    all-filtered (is_member (max a.dimension b.dimension)) (has cell_cmp b.cells) a.cells (widened a _ ia cases.0);
+      all-filtered (is_member (max a.dimension b.dimension)) (has cell_cmp b.cells) a.cells (widened a _ ia cases.0);
   sorted = IsStrictlySortedBy-filter cell_cmp (has cell_cmp b.cells) a.cells ia.sorted;
   few = let x = ia.few in omega (arith, length-filtered (has cell_cmp b.cells) a.cells);
 }

@@ -76,4 +76,3 @@ read kind set o start (p ∷ ps) = next (step o p.1)
     (λ o'. read kind set o' (start_of o start p.0) ps)
     (λ i. judged (cause_of kind set i) (λ c. Err (closing_place i (start_of o start p.0) p.0, c)) (read kind (with_item set i) nothing 0 ps))
     (λ c. Err (p.0, c))
-

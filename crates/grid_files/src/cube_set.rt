@@ -29,6 +29,19 @@ impl Model for CubeSet {
     ghost invariant = { λ s. IsCubeSet (record { dimension = s.dimension; cells = s.cells.items }) };
 }
 
+/// Whether all of these cells lie in the range of the files and have this embedding dimension.
+pub fn are_members(dimension: u8, cells: &[Cell]) -> bool
+    ensures { result ≡ list_all (is_member dimension) cells.now }
+{
+    cells.iter().all(|cell| is_member(dimension, cell))
+}
+
+fn is_member(dimension: u8, cell: &Cell) -> bool
+    ensures { result ≡ is_member dimension cell.now }
+{
+    cell.embedding() == u32::from(dimension) && cell.in_range()
+}
+
 impl CubeSet {
     /// The set of these cells; the same cell may stand more than once. All of them lie in the range of the files and have
     /// this embedding dimension, which is 0 for an empty list alone.

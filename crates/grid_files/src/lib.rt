@@ -10,6 +10,9 @@ mod piece;
 mod scanner;
 mod sorted;
 
-pub use cube_set::CubeSet;
+pub use cube_set::{CubeSet, are_members};
 pub use fault::{CUBES, Kind, TextCause, TextFault};
 pub use laws::texts_have_one_outcome;
+
+#[cfg(test)]
+mod tests;

@@ -101,19 +101,31 @@ pub(crate) fn take_turn(opening: Opening, piece: Piece) -> Turn
             CornerStep::Close => Turn::Closes(Closing::Full(corner)),
             CornerStep::Stop(cause) => Turn::Stops(cause),
         },
-        Opening::BeforeLower => wanting(b'(', piece, Turn::Goes(Opening::InLower(OpenCorner::new()))),
+        Opening::BeforeLower => wanting(
+            b'(',
+            piece,
+            Turn::Goes(Opening::InLower(OpenCorner::new())),
+        ),
         Opening::InLower(lower) => match in_corner(false, lower, piece) {
             CornerStep::More(lower) => Turn::Goes(Opening::InLower(lower)),
             CornerStep::Close => Turn::Goes(Opening::BeforeUpper(lower)),
             CornerStep::Stop(cause) => Turn::Stops(cause),
         },
-        Opening::BeforeUpper(lower) => wanting(b'(', piece, Turn::Goes(Opening::InUpper(lower, OpenCorner::new()))),
+        Opening::BeforeUpper(lower) => wanting(
+            b'(',
+            piece,
+            Turn::Goes(Opening::InUpper(lower, OpenCorner::new())),
+        ),
         Opening::InUpper(lower, upper) => match in_corner(false, upper, piece) {
             CornerStep::More(upper) => Turn::Goes(Opening::InUpper(lower, upper)),
             CornerStep::Close => Turn::Goes(Opening::BeforeEnd(lower, upper)),
             CornerStep::Stop(cause) => Turn::Stops(cause),
         },
-        Opening::BeforeEnd(lower, upper) => wanting(b']', piece, Turn::Closes(Closing::Elementary(lower, upper))),
+        Opening::BeforeEnd(lower, upper) => wanting(
+            b']',
+            piece,
+            Turn::Closes(Closing::Elementary(lower, upper)),
+        ),
         Opening::BehindWord => after_word(piece),
     }
 }

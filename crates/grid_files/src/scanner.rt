@@ -98,7 +98,11 @@ fn on_line(b: u8) -> Carry
     ensures pieces { (place : ℕ) (bs : List ℕ) → behind_line place (b ∷ bs) ≡ left result (place + 1) bs }
     ensures carry { IsCarry result }
 {
-    if b == b'\n' { Carry::Between } else { Carry::Line }
+    if b == b'\n' {
+        Carry::Between
+    } else {
+        Carry::Line
+    }
 }
 
 // Behind the first byte of what stands between two tokens.
@@ -129,7 +133,11 @@ fn begin(place: u64, b: u8) -> (Carry, Option<Placed>)
     if b == b'-' {
         return (Carry::Dash { at: place }, None);
     }
-    let piece = if is_mark(b) { Piece::Mark(b) } else { Piece::Strange };
+    let piece = if is_mark(b) {
+        Piece::Mark(b)
+    } else {
+        Piece::Strange
+    };
     (Carry::Between, Some((place, piece)))
 }
 

@@ -33,7 +33,11 @@ fn rest_of<'a, T>(left: &'a [T], i: usize, right: &'a [T], j: usize) -> &'a [T]
     ensures left { i < length left.now → result.now ≡ drop i left.now }
     ensures right { length left.now ≤ i → result.now ≡ drop j right.now }
 {
-    if i < left.len() { &left[i..] } else { &right[j..] }
+    if i < left.len() {
+        &left[i..]
+    } else {
+        &right[j..]
+    }
 }
 
 /// The values of both sorted lists, or nothing where there are more than so many.
@@ -82,7 +86,11 @@ pub(crate) fn union<T: Ord + Copy>(
 }
 
 /// The values of both sorted lists.
-pub(crate) fn union_of_all<T: Ord + Copy>(alloc: Global, left: &[T], right: &[T]) -> Result<Vec<T>, AllocError>
+pub(crate) fn union_of_all<T: Ord + Copy>(
+    alloc: Global,
+    left: &[T],
+    right: &[T],
+) -> Result<Vec<T>, AllocError>
     requires left { IsStrictlySortedBy T.cmp left.now }
     requires right { IsStrictlySortedBy T.cmp right.now }
     requires few { length left.now + length right.now < 2 ^ 32 }
@@ -93,7 +101,11 @@ pub(crate) fn union_of_all<T: Ord + Copy>(alloc: Global, left: &[T], right: &[T]
 }
 
 /// The values that both sorted lists have.
-pub(crate) fn intersection<T: Ord + Copy>(alloc: Global, left: &[T], right: &[T]) -> Result<Vec<T>, AllocError>
+pub(crate) fn intersection<T: Ord + Copy>(
+    alloc: Global,
+    left: &[T],
+    right: &[T],
+) -> Result<Vec<T>, AllocError>
     requires left { IsStrictlySortedBy T.cmp left.now }
     requires right { IsStrictlySortedBy T.cmp right.now }
     ensures { IfOk result (λ both. both.items ≡ intersection_of T.cmp left.now right.now) }

@@ -7,7 +7,7 @@ use Rattle.grid_files.proofs.sorted.intersection.Goals.{then-merge-test+else-j-r
 pub merge-preserved-in-Less : goal.merge-preserved-in-Less
 merge-preserved-in-Less g c = record {
   kept = meet_less g.T.Ord.cmp g.met.T.Ord.total c.args.left.now c.args.right.now c.merge.both.items c.merge.i c.merge.j _ _ c.merge-test.true c.if-j-right.true
-    c.index-left-i.is c.index-right-j.is (sym c.in-Less.ensures) c.requires.right ∙ c.merge.invariant.kept;
+      c.index-left-i.is c.index-right-j.is (sym c.in-Less.ensures) c.requires.right ∙ c.merge.invariant.kept;
   left = omega arith;
   right = omega arith;
 }
@@ -15,8 +15,8 @@ merge-preserved-in-Less g c = record {
 pub merge-preserved-in-Equal : goal.merge-preserved-in-Equal
 merge-preserved-in-Equal g c = record {
   kept = rw c.in_ok-push-in-Equal.ensures.items
-    (meet_equal g.T.Ord.cmp g.met.T.Ord.total c.args.left.now c.args.right.now c.merge.both.items c.merge.i c.merge.j _ _ c.merge-test.true c.if-j-right.true
-    c.index-left-i.is c.index-right-j.is (sym c.in-Equal.ensures) c.requires.left ∙ c.merge.invariant.kept);
+      (meet_equal g.T.Ord.cmp g.met.T.Ord.total c.args.left.now c.args.right.now c.merge.both.items c.merge.i c.merge.j _ _ c.merge-test.true c.if-j-right.true
+      c.index-left-i.is c.index-right-j.is (sym c.in-Equal.ensures) c.requires.left ∙ c.merge.invariant.kept);
   left = omega arith;
   right = omega arith;
 }
@@ -24,7 +24,7 @@ merge-preserved-in-Equal g c = record {
 pub merge-preserved : goal.merge-preserved
 merge-preserved g c = record {
   kept = meet_greater g.T.Ord.cmp g.met.T.Ord.total c.args.left.now c.args.right.now c.merge.both.items c.merge.i c.merge.j _ _ c.merge-test.true c.if-j-right.true
-    c.index-left-i.is c.index-right-j.is (sym c.in-Greater.ensures) c.requires.left ∙ c.merge.invariant.kept;
+      c.index-left-i.is c.index-right-j.is (sym c.in-Greater.ensures) c.requires.left ∙ c.merge.invariant.kept;
   left = omega arith;
   right = omega arith;
 }

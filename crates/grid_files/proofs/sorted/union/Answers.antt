@@ -13,8 +13,8 @@ returns-then-len-limit-clause-more g c =
 pub merge-preserved-in-Less : goal.merge-preserved-in-Less
 merge-preserved-in-Less g c = record {
   kept = rw c.in_ok-push-in-Less.ensures.items
-    (merge_less g.T.Ord.cmp g.met.T.Ord.total c.args.left.now c.args.right.now c.merge.all.items c.merge.i c.merge.j _ _ c.merge-test.true c.if-j-right.true
-    c.index-left-i.is c.index-right-j.is (sym c.in-Less.ensures) c.requires.left c.requires.right ∙ c.merge.invariant.kept);
+      (merge_less g.T.Ord.cmp g.met.T.Ord.total c.args.left.now c.args.right.now c.merge.all.items c.merge.i c.merge.j _ _ c.merge-test.true c.if-j-right.true
+      c.index-left-i.is c.index-right-j.is (sym c.in-Less.ensures) c.requires.left c.requires.right ∙ c.merge.invariant.kept);
   few = rw c.in_ok-push-in-Less.ensures.items (omega (arith, length-append c.merge.all.items));
   left = omega arith;
   right = omega arith;
@@ -23,8 +23,8 @@ merge-preserved-in-Less g c = record {
 pub merge-preserved-in-Equal : goal.merge-preserved-in-Equal
 merge-preserved-in-Equal g c = record {
   kept = rw c.in_ok-push-in-Equal.ensures.items
-    (merge_equal g.T.Ord.cmp g.met.T.Ord.total c.args.left.now c.args.right.now c.merge.all.items c.merge.i c.merge.j _ _ c.merge-test.true c.if-j-right.true
-    c.index-left-i.is c.index-right-j.is (sym c.in-Equal.ensures) c.requires.left c.requires.right ∙ c.merge.invariant.kept);
+      (merge_equal g.T.Ord.cmp g.met.T.Ord.total c.args.left.now c.args.right.now c.merge.all.items c.merge.i c.merge.j _ _ c.merge-test.true c.if-j-right.true
+      c.index-left-i.is c.index-right-j.is (sym c.in-Equal.ensures) c.requires.left c.requires.right ∙ c.merge.invariant.kept);
   few = rw c.in_ok-push-in-Equal.ensures.items (omega (arith, length-append c.merge.all.items));
   left = omega arith;
   right = omega arith;
@@ -33,8 +33,8 @@ merge-preserved-in-Equal g c = record {
 pub merge-preserved : goal.merge-preserved
 merge-preserved g c = record {
   kept = rw c.in_ok-push-in-Greater.ensures.items
-    (merge_greater g.T.Ord.cmp g.met.T.Ord.total c.args.left.now c.args.right.now c.merge.all.items c.merge.i c.merge.j _ _ c.merge-test.true c.if-j-right.true
-    c.index-left-i.is c.index-right-j.is (sym c.in-Greater.ensures) c.requires.left c.requires.right ∙ c.merge.invariant.kept);
+      (merge_greater g.T.Ord.cmp g.met.T.Ord.total c.args.left.now c.args.right.now c.merge.all.items c.merge.i c.merge.j _ _ c.merge-test.true c.if-j-right.true
+      c.index-left-i.is c.index-right-j.is (sym c.in-Greater.ensures) c.requires.left c.requires.right ∙ c.merge.invariant.kept);
   few = rw c.in_ok-push-in-Greater.ensures.items (omega (arith, length-append c.merge.all.items));
   left = omega arith;
   right = omega arith;
