@@ -1,18 +1,14 @@
 -- The factors of a cell by the bits of its axes.
-use Rattle.std.proofs.Common.{◌≡◌, ◌≢◌, ℕ, zero, suc, ◌+◌, ◌-◌, ◌*◌, ◌/◌, ◌%◌, ◌^◌, ◌<◌, ◌≤◌, refl, sym, ap, ◌∙◌, subst, arith, List, [], ◌∷◌, length, get_or, set, map, Bool, true, false, cond, eqb, eq-eqb, IsTrue, ◌&&◌, ⊎_elim}
-use Rattle.std.specs.Prelude.{ℤ, pos, bit_and, bit_or, count_ones}
+use Rattle.std.proofs.Common.{◌≡◌, ◌≢◌, ℕ, zero, suc, ◌+◌, ◌-◌, ◌*◌, ◌/◌, ◌%◌, ◌^◌, ◌<◌, ◌≤◌, refl, sym, ap, ◌∙◌, arith, List, [], ◌∷◌, length, get_or, set, Bool, true, false, cond, eqb, eq-eqb, ◌&&◌, ⊎_elim}
+use Rattle.std.specs.Prelude.{ℤ, bit_and, bit_or, count_ones}
 use Rattle.std.specs.Int.{bit_at, w8, bit_not}
 use Rattle.std.specs.List.{list_all}
-use Rattle.std.specs.Cmp.{both_ways}
 use Rattle.std.proofs.Math.Nat.{pow-suc}
 use Rattle.std.proofs.lemmas.Nat.{ones_cat, zero_from_ones, ones_le_self, and_le_l, or_lt, one_shl, pow_below, pow_pos}
-use Rattle.std.proofs.lemmas.Nat.Bits.{bit_at_lowest, bit_at-suc, shr_and_one, bit_at_clear_same, bit_at_clear_other, bit_at_set_same, bit_at_set_other, bit_at-lt}
+use Rattle.std.proofs.lemmas.Nat.Bits.{bit_at_lowest, bit_at-suc, bit_at_clear_same, bit_at_clear_other, bit_at_set_same, bit_at_set_other}
 use Rattle.std.proofs.lemmas.Bool.{cases_eq}
 use Rattle.std.proofs.lemmas.Bool.Decides.{nat_tests}
-use Rattle.elem_cubes.specs.Cells.{Factor, point, interval, low, is_wide, is_factor, lower_of, axes_of, cell_of, dimension_of}
-use Rattle.elem_cubes.specs.Corners.{is_end}
-use Rattle.elem_cubes.specs.KeepingLemmas.{length-cell_of}
-use Rattle.elem_cubes.proofs.Tests.{both, left, right}
+use Rattle.elem_cubes.specs.Cells.{Factor, point, interval, is_wide, lower_of, axes_of, cell_of, dimension_of}
 
 -- the factor with this lower end
 abbrev pub factor_of : Bool → ℤ → Factor

@@ -1,14 +1,13 @@
 -- Faces: the test, and that being a face is an order.
-use Rattle.std.proofs.Common.{◌≡◌, ℕ, ◌+◌, ◌⊎◌, inl, inr, ⊎_elim, refl, sym, ap, ◌∙◌, subst, arith, suc, List, [], ◌∷◌, length, Bool, true, false, ◌&&◌, ◌||◌, true≢false, IsTrue}
-use Rattle.std.specs.Prelude.{ℤ, pos, ◌+ℤ◌}
+use Rattle.std.proofs.Common.{◌≡◌, ◌⊎◌, inl, inr, ⊎_elim, refl, sym, ap, ◌∙◌, suc, List, [], ◌∷◌, length, Bool, true, false, ◌||◌, true≢false}
+use Rattle.std.specs.Prelude.{pos, ◌+ℤ◌}
 use Rattle.std.specs.Bool.{Decides}
 use Rattle.std.specs.Ordering.{int_eq}
 use Rattle.std.proofs.lemmas.Bool.Decides.{Decides-int_eq}
-use Rattle.std.proofs.lemmas.Int.{ints}
-use Rattle.elem_cubes.specs.Cells.{Factor, point, interval, dimension_of}
+use Rattle.elem_cubes.specs.Cells.{Factor, point, interval}
 use Rattle.elem_cubes.specs.Faces.{IsPart, IsFace, is_part, is_face}
 use Rattle.elem_cubes.specs.Laws.{FacesAreTransitive}
-use Rattle.elem_cubes.proofs.Tests.{both, left, right}
+use Rattle.elem_cubes.proofs.Conjunctions.{both, left, right}
 
 either : (a b : Bool) → (a || b) ≡ true → (a ≡ true) ⊎ (b ≡ true)
 either true b h = inl refl

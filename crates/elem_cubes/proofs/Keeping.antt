@@ -1,6 +1,6 @@
 -- What the fields of a cell say of its factors.
 use Rattle.std.proofs.Common.{◌≡◌, ℕ, ◌-◌, ◌^◌, ◌<◌, ◌≤◌, refl, sym, ap, ◌∙◌, subst, arith, List, [], ◌∷◌, ◌++◌, length, take, get_or, set, replicate, Bool, true, false, IsTrue, ◌&&◌, nat_le, cond, eqb, ◌/◌, ◌%◌}
-use Rattle.std.specs.Prelude.{ℤ, pos, count_ones}
+use Rattle.std.specs.Prelude.{ℤ, count_ones}
 use Rattle.std.specs.List.{list_all}
 use Rattle.std.specs.Int.{bit_at}
 use Rattle.std.proofs.Math.Seq.{take-set-lt}
@@ -9,11 +9,11 @@ use Rattle.std.proofs.lemmas.Bool.{leb-true}
 use Rattle.elem_cubes.specs.declared.range.TheConstants.{MAX_EMBEDDING}
 use Rattle.elem_cubes.specs.declared.packed.TheConstants.{PADDING}
 use Rattle.elem_cubes.specs.Corners.{is_end, is_corner}
-use Rattle.elem_cubes.specs.Cells.{Factor, point, interval, low, is_wide, is_factor, is_cell, lower_of, axes_of, cell_of, dimension_of}
+use Rattle.elem_cubes.specs.Cells.{Factor, point, interval, is_wide, is_factor, is_cell, lower_of, axes_of, cell_of, dimension_of}
 use Rattle.elem_cubes.specs.Packed.{padded, KeepsCorner, KeepsCell}
 use Rattle.elem_cubes.specs.KeepingLemmas.{lower-cell_of, length-cell_of, axes-cell_of}
-use Rattle.elem_cubes.proofs.Tests.{both, left, right, all_set}
-use Rattle.elem_cubes.proofs.Bits.{ones_are_intervals, few_intervals, all_wide, wide_at}
+use Rattle.elem_cubes.proofs.Conjunctions.{both, left, right, all_set}
+use Rattle.elem_cubes.proofs.Bits.{ones_are_intervals, all_wide, wide_at}
 
 -- the number of factors is 1 to the greatest
 abbrev pub has_length : ℕ → Bool

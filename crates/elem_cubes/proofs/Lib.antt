@@ -1,4 +1,4 @@
-pub mod Tests
+pub mod Conjunctions
 pub mod Bits
 pub mod Keeping
 pub mod Words

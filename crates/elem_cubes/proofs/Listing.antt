@@ -1,7 +1,7 @@
 -- The lists of faces, cofaces and the closure have exactly what they should, each once.
-use Rattle.std.proofs.Common.{◌≡◌, ◌≢◌, ℕ, zero, suc, ◌+◌, ◌-◌, ◌*◌, ◌<◌, ◌≤◌, ◌⊎◌, inl, inr, ⊎_elim, refl, sym, ap, ◌∙◌, subst, arith, List, [], ◌∷◌, ◌++◌, length, get_or, map}
+use Rattle.std.proofs.Common.{◌≡◌, ℕ, ◌+◌, ◌-◌, ◌*◌, ◌<◌, ◌≤◌, ◌⊎◌, inl, inr, ⊎_elim, refl, sym, ap, ◌∙◌, subst, arith, List, [], ◌∷◌, ◌++◌, length, get_or, map}
 use Rattle.std.specs.Prelude.{ℤ, pos, negsuc, neg_ℤ, ◌+ℤ◌}
-use Rattle.std.specs.List.{Contains, flat_map}
+use Rattle.std.specs.List.{flat_map}
 use Rattle.std.proofs.lemmas.List.{length-map}
 use Rattle.std.proofs.lemmas.Int.{ints}
 use Rattle.field_mod.specs.Modular.{Same}
@@ -10,7 +10,7 @@ use Rattle.elem_cubes.specs.Cells.{Factor, point, interval, dimension_of}
 use Rattle.elem_cubes.specs.Faces.{IsPart, IsFace, IsFacet, turned, behind, changed, ends_of, intervals_at, faces_of, cofaces_of, parts_of, closure_of}
 use Rattle.elem_cubes.specs.Boundary.{residue, boundary_coefficient}
 use Rattle.elem_cubes.specs.Laws.{FacesAreFacets, CofacesAreAll, ClosuresAreFaces}
-use Rattle.elem_cubes.proofs.Tests.{get_or-map}
+use Rattle.elem_cubes.proofs.Conjunctions.{get_or-map}
 use Rattle.elem_cubes.proofs.FaceLemmas.{part_refl, face_refl, face_trans}
 use Rattle.elem_cubes.proofs.Members.{In, In-from, from-In, In-map, map-In, In-append, left-In, right-In, In-flat, flat-In, Apart, apart_places, apart-append, apart-map}
 use Rattle.elem_cubes.proofs.Modular.{exact, residue_neg}
@@ -171,17 +171,17 @@ apart_changed change d (f ∷ fs) =
     let heads = map (λ (g : Factor). g ∷ fs) (firsts (change f)) in
     let tails = map (λ (rs : List Factor). f ∷ rs) (firsts (changed change fs)) in
     let e : firsts (changed change (f ∷ fs)) ≡ heads ++ tails =
-        firsts-append (map (headed fs) (change f)) (map (behind f) (changed change fs)) ∙ (λ i. firsts-headed fs (change f) i ++ firsts-behind f (changed change fs) i) in
+    firsts-append (map (headed fs) (change f)) (map (behind f) (changed change fs)) ∙ (λ i. firsts-headed fs (change f) i ++ firsts-behind f (changed change fs) i) in
     let P : List (List Factor) → Type 0 = λ v. Apart v in
     subst P (sym e) (apart-append heads tails
-        (apart-map (λ (g : Factor). g ∷ fs) (firsts (change f)) (λ x z k. same_head x z fs fs k) (d.apart f))
-        (apart-map (λ (rs : List Factor). f ∷ rs) (firsts (changed change fs)) (λ x z k. same_tail f f x z k) (apart_changed change d fs))
-        (λ x h k.
-            let a = In-map (λ (g : Factor). g ∷ fs) (firsts (change f)) x h in
-            let b = In-map (λ (rs : List Factor). f ∷ rs) (firsts (changed change fs)) x k in
-            let s : a.0 ≡ f = same_head a.0 f fs b.0 (a.2 ∙ sym b.2) in
-            let Q : Factor → Type 0 = λ v. In (firsts (change f)) v in
-            d.other f (subst Q s a.1)))
+    (apart-map (λ (g : Factor). g ∷ fs) (firsts (change f)) (λ x z k. same_head x z fs fs k) (d.apart f))
+    (apart-map (λ (rs : List Factor). f ∷ rs) (firsts (changed change fs)) (λ x z k. same_tail f f x z k) (apart_changed change d fs))
+    (λ x h k.
+    let a = In-map (λ (g : Factor). g ∷ fs) (firsts (change f)) x h in
+    let b = In-map (λ (rs : List Factor). f ∷ rs) (firsts (changed change fs)) x k in
+    let s : a.0 ≡ f = same_head a.0 f fs b.0 (a.2 ∙ sym b.2) in
+    let Q : Factor → Type 0 = λ v. In (firsts (change f)) v in
+    d.other f (subst Q s a.1)))
 
 pub once_changed : (change : Factor → List (Factor × ℤ)) → Differ change → (q : List Factor) (d : List Factor × ℤ) (i j : ℕ) → i < length (changed change q) → j < length (changed change q)
     → (get_or (changed change q) i d).0 ≡ (get_or (changed change q) j d).0 → i ≡ j
@@ -189,7 +189,7 @@ once_changed change a q d i j h k e =
     let gs = changed change q in
     let n : length (firsts gs) ≡ length gs = length-map gs (λ e. e.0) in
     apart_places (firsts gs) i j d.0 (apart_changed change a q) (omega arith) (omega arith)
-        (get_or-map (λ (e : List Factor × ℤ). e.0) gs i d ∙ e ∙ sym (get_or-map (λ (e : List Factor × ℤ). e.0) gs j d))
+    (get_or-map (λ (e : List Factor × ℤ). e.0) gs i d ∙ e ∙ sym (get_or-map (λ (e : List Factor × ℤ). e.0) gs j d))
 
 differ_ends : Differ ends_of
 differ_ends = record { apart = apart; other = other }
@@ -197,6 +197,7 @@ differ_ends = record { apart = apart; other = other }
     apart : (f : Factor) → Apart (firsts (ends_of f))
     apart (point l) = tt
     apart (interval l) = (λ h. ⊎_elim (λ e. let k : l ≡ l +ℤ pos 1 = cc in absurd (omega (arith, ints))) (λ z. z) h, ((λ z. z), tt))
+
     other : (f : Factor) → In (firsts (ends_of f)) f → ⊥
     other (point l) h = h
     other (interval l) h = ⊎_elim (λ e. cc) (λ k. ⊎_elim (λ e. cc) (λ z. z) k) h
@@ -207,6 +208,7 @@ differ_intervals = record { apart = apart; other = other }
     apart : (f : Factor) → Apart (firsts (intervals_at f))
     apart (interval m) = tt
     apart (point m) = (λ h. ⊎_elim (λ e. let k : m +ℤ negsuc 0 ≡ m = cc in absurd (omega (arith, ints))) (λ z. z) h, ((λ z. z), tt))
+
     other : (f : Factor) → In (firsts (intervals_at f)) f → ⊥
     other (interval m) h = h
     other (point m) h = ⊎_elim (λ e. cc) (λ k. ⊎_elim (λ e. cc) (λ z. z) k) h
@@ -266,8 +268,9 @@ from_closure (f ∷ fs) (g ∷ gs) h = flat-In (fronts (parts_of f)) (closure_of
 apart_parts : (f : Factor) → Apart (parts_of f)
 apart_parts (point l) = ((λ z. z), tt)
 apart_parts (interval l) = (
-    λ h. ⊎_elim (λ e. cc) (λ k. ⊎_elim (λ e. let j : l +ℤ pos 1 ≡ l = cc in absurd (omega (arith, ints))) (λ z. z) k) h,
-    ((λ h. ⊎_elim (λ e. cc) (λ z. z) h), ((λ z. z), tt)))
+  λ h. ⊎_elim (λ e. cc) (λ k. ⊎_elim (λ e. let j : l +ℤ pos 1 ≡ l = cc in absurd (omega (arith, ints))) (λ z. z) k) h,
+  ((λ h. ⊎_elim (λ e. cc) (λ z. z) h), ((λ z. z), tt)),
+)
 
 apart_flat : (ps : List Factor) → Apart ps → (xs : List (List Factor)) → Apart xs → Apart (flat_map (fronts ps) xs)
 apart_flat ps a [] b = tt
@@ -275,12 +278,12 @@ apart_flat ps a (x ∷ xs) b = apart-append (fronts ps x) (flat_map (fronts ps) 
     (apart-map (λ (r : Factor). r ∷ x) ps (λ y z k. same_head y z x x k) a)
     (apart_flat ps a xs b.1)
     (λ y h k.
-        let c = In-map (λ (r : Factor). r ∷ x) ps y h in
-        let d = In-flat (fronts ps) xs y k in
-        let e = In-map (λ (r : Factor). r ∷ d.0) ps y d.2 in
-        let s : d.0 ≡ x = same_tail e.0 c.0 d.0 x (e.2 ∙ sym c.2) in
-        let P : List Factor → Type 0 = λ v. In xs v in
-        b.0 (subst P s d.1))
+    let c = In-map (λ (r : Factor). r ∷ x) ps y h in
+    let d = In-flat (fronts ps) xs y k in
+    let e = In-map (λ (r : Factor). r ∷ d.0) ps y d.2 in
+    let s : d.0 ≡ x = same_tail e.0 c.0 d.0 x (e.2 ∙ sym c.2) in
+    let P : List Factor → Type 0 = λ v. In xs v in
+    b.0 (subst P s d.1))
 
 apart_closure : (q : List Factor) → Apart (closure_of q)
 apart_closure [] = ((λ z. z), tt)

@@ -1,5 +1,5 @@
 -- Cells made from a corner and axes, their upper corners, and the walk over the factors of two cells at once.
-use Rattle.std.proofs.Common.{◌≡◌, ℕ, zero, suc, ◌+◌, ◌-◌, ◌*◌, ◌/◌, ◌%◌, ◌^◌, ◌<◌, ◌≤◌, refl, sym, ap, ◌∙◌, subst, arith, List, [], ◌∷◌, ◌++◌, length, take, drop, get_or, set, map, replicate, append_assoc, Bool, true, false, cond, eqb, IsTrue, ◌&&◌, nat_lt}
+use Rattle.std.proofs.Common.{◌≡◌, ℕ, zero, suc, ◌+◌, ◌-◌, ◌*◌, ◌/◌, ◌%◌, ◌^◌, ◌<◌, refl, sym, ap, ◌∙◌, subst, arith, List, [], ◌∷◌, ◌++◌, length, take, drop, get_or, set, replicate, append_assoc, Bool, true, false, cond, eqb, IsTrue, ◌&&◌, nat_lt}
 use Rattle.std.specs.Prelude.{ℤ, pos, negsuc, ◌+ℤ◌, int_le, int_lt}
 use Rattle.std.specs.List.{list_all}
 use Rattle.std.proofs.Math.Nat.{pow-suc}
@@ -12,11 +12,11 @@ use Rattle.std.proofs.lemmas.Int.{ints}
 use Rattle.elem_cubes.specs.declared.range.TheConstants.{LOW, HIGH, MAX_EMBEDDING}
 use Rattle.elem_cubes.specs.declared.packed.TheConstants.{PADDING}
 use Rattle.elem_cubes.specs.Corners.{is_end, is_corner}
-use Rattle.elem_cubes.specs.Cells.{Factor, point, interval, low, high, is_factor, is_cell, lower_of, upper_of, cell_of, full_cell}
+use Rattle.elem_cubes.specs.Cells.{Factor, low, high, is_factor, is_cell, upper_of, cell_of, full_cell}
 use Rattle.elem_cubes.specs.Faces.{is_part, is_face}
 use Rattle.elem_cubes.specs.Packed.{padded, KeepsCorner, KeepsCell}
 use Rattle.elem_cubes.specs.KeepingLemmas.{length-cell_of}
-use Rattle.elem_cubes.proofs.Tests.{both, left, right}
+use Rattle.elem_cubes.proofs.Conjunctions.{both, left, right}
 use Rattle.elem_cubes.proofs.Bits.{factor_of}
 use Rattle.elem_cubes.proofs.Keeping.{has_length, all_factors, cell_of_corner}
 

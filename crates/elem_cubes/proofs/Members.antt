@@ -1,5 +1,5 @@
 -- Membership in lists by recursion, and lists without repeats.
-use Rattle.std.proofs.Common.{◌≡◌, ℕ, zero, suc, ◌+◌, ◌<◌, ◌⊎◌, inl, inr, ⊎_elim, refl, sym, ap, ◌∙◌, subst, arith, List, [], ◌∷◌, ◌++◌, length, get_or, map}
+use Rattle.std.proofs.Common.{◌≡◌, ℕ, zero, suc, ◌<◌, ◌⊎◌, inl, inr, ⊎_elim, refl, sym, ap, subst, arith, List, [], ◌∷◌, ◌++◌, length, get_or, map}
 use Rattle.std.specs.List.{Contains, flat_map}
 
 abbrev pub In : {X : Type 0} → List X → X → Type 0

@@ -4,7 +4,7 @@ use Rattle.std.specs.Prelude.{ℤ, pos, negsuc, neg_ℤ}
 use Rattle.field_mod.specs.Sums.{total}
 use Rattle.field_mod.specs.Modular.{Same}
 use Rattle.field_mod.proofs.Sums.{total-same, total-zero}
-use Rattle.field_mod.proofs.Modular.{same_by, same_refl, same_trans}
+use Rattle.field_mod.proofs.Modular.{same_by, same_trans}
 use Rattle.elem_cubes.specs.Boundary.{residue}
 
 pub exact : (p : ℕ) {a b : ℕ} → a ≡ b → Same p a b

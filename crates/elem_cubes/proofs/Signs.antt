@@ -1,17 +1,16 @@
 -- The coefficient of a facet, and the signed sums over faces and cofaces.
-use Rattle.std.proofs.Common.{◌≡◌, ◌≢◌, ℕ, zero, suc, ◌+◌, ◌-◌, ◌*◌, ◌≤◌, ◌⊎◌, inl, inr, refl, sym, ap, ◌∙◌, subst, arith, ⊎_elim, List, [], ◌∷◌, ◌++◌, length, map, Bool, true, false, cond, ◌&&◌, true≢false}
-use Rattle.std.specs.Prelude.{ℤ, pos, negsuc, neg_ℤ, ◌+ℤ◌}
+use Rattle.std.proofs.Common.{◌≡◌, ◌≢◌, ℕ, ◌+◌, ◌-◌, ◌*◌, ◌≤◌, refl, sym, ap, ◌∙◌, arith, ⊎_elim, List, [], ◌∷◌, map, Bool, true, false, cond, true≢false}
+use Rattle.std.specs.Prelude.{ℤ, pos, negsuc, ◌+ℤ◌}
 use Rattle.std.specs.Ordering.{int_eq}
 use Rattle.std.proofs.lemmas.Int.{ints}
 use Rattle.field_mod.specs.Modular.{Same}
-use Rattle.field_mod.proofs.Modular.{same_by, same_refl, same_trans, same_sym, same-add, same-scale, same-mul}
-use Rattle.elem_cubes.specs.Cells.{Factor, point, interval, dimension_of, same_factor, same_cell}
-use Rattle.elem_cubes.specs.Faces.{IsFace, IsFacet, turned, behind, changed, ends_of, intervals_at, faces_of, cofaces_of}
-use Rattle.elem_cubes.specs.Boundary.{residue, end_coefficient, boundary_coefficient, boundary_at, boundary_pairing, signed_sum}
+use Rattle.field_mod.proofs.Modular.{same_by, same_refl, same_trans, same-add, same-scale, same-mul}
+use Rattle.elem_cubes.specs.Cells.{Factor, point, interval, dimension_of, same_cell}
+use Rattle.elem_cubes.specs.Faces.{IsFace, behind, faces_of, cofaces_of}
+use Rattle.elem_cubes.specs.Boundary.{residue, boundary_coefficient, boundary_pairing, signed_sum}
 use Rattle.elem_cubes.specs.Laws.{BoundaryIsOverCofaces, FacetsAreUnits}
-use Rattle.elem_cubes.specs.OrderLemmas.{int_same, int_refl, cell_refl, cell_cases}
-use Rattle.elem_cubes.proofs.FaceLemmas.{face_refl}
-use Rattle.elem_cubes.proofs.Modular.{exact, neg_cancel, minus_minus, residue_neg, either-none}
+use Rattle.elem_cubes.specs.OrderLemmas.{int_same, int_refl, cell_refl}
+use Rattle.elem_cubes.proofs.Modular.{exact, minus_minus, residue_neg, either-none}
 
 -- ---- signed sums
 

@@ -1,5 +1,5 @@
 -- Upper corners: the order of two of them over one lower corner, and how they are kept.
-use Rattle.std.proofs.Common.{◌≡◌, ℕ, zero, suc, ◌+◌, ◌-◌, ◌*◌, ◌/◌, ◌%◌, ◌^◌, ◌<◌, ◌≤◌, refl, sym, ap, ◌∙◌, subst, arith, List, [], ◌∷◌, ◌++◌, length, replicate, Bool, true, false, cond, eqb}
+use Rattle.std.proofs.Common.{◌≡◌, ℕ, zero, suc, ◌+◌, ◌/◌, ◌%◌, ◌^◌, ◌<◌, sym, ap, ◌∙◌, arith, List, [], ◌∷◌, length, eqb}
 use Rattle.std.specs.Prelude.{ℤ, pos, ◌+ℤ◌, bit_xor}
 use Rattle.std.specs.Int.{bit_at, w8, trailing_zeros}
 use Rattle.std.specs.declared.cmp.Ordering.{Ordering}
@@ -11,7 +11,7 @@ use Rattle.std.proofs.Math.Nat.{pow-suc}
 use Rattle.std.proofs.lemmas.Nat.Bits.{bit_at_lowest, bit_at-suc, bit_at-zero, bit_at_xor, bit_at-trailing_zeros, bit_at-lt, same_from_bits}
 use Rattle.std.proofs.lemmas.Int.{ints}
 use Rattle.elem_cubes.specs.Corners.{corner_cmp}
-use Rattle.elem_cubes.specs.Cells.{Factor, point, interval, high, upper_of, cell_of}
+use Rattle.elem_cubes.specs.Cells.{high, upper_of, cell_of}
 use Rattle.elem_cubes.specs.Packed.{OrdersUppers}
 use Rattle.elem_cubes.proofs.Bits.{factor_of}
 

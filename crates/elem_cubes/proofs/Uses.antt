@@ -1,5 +1,5 @@
 -- Comparisons and hashes of cells by their fields.
-use Rattle.std.proofs.Common.{◌≡◌, ℕ, ◌^◌, ◌<◌, refl, sym, ap, ◌∙◌, subst, arith, List, [], ◌∷◌, ◌++◌, length, take, Bool, true, false, eqb, eqb-true, eq-eqb, true≢false}
+use Rattle.std.proofs.Common.{◌≡◌, ℕ, ◌^◌, ◌<◌, refl, sym, ap, ◌∙◌, subst, List, length, take, true, false, eqb, eqb-true, eq-eqb, true≢false}
 use Rattle.std.specs.Prelude.{ℤ}
 use Rattle.std.specs.Cmp.{both_ways, Equal-is, tied_itself}
 use Rattle.std.specs.Cmp.Lexicographic.{slice_cmp, lists_ties, pointwise}
@@ -12,7 +12,7 @@ use Rattle.elem_cubes.specs.Cells.{Factor, lower_of, upper_of, axes_of, cell_of,
 use Rattle.elem_cubes.specs.Order.{cell_cmp}
 use Rattle.elem_cubes.specs.OrderLemmas.{tied_lists, same_cell-Decides}
 use Rattle.elem_cubes.specs.Packed.{words_of, KeepsCell, OrdersUppers}
-use Rattle.elem_cubes.proofs.Keeping.{lower_kept, axes_small, axes_kept, parts_kept, corner_kept}
+use Rattle.elem_cubes.proofs.Keeping.{lower_kept, axes_small, axes_kept, corner_kept}
 use Rattle.elem_cubes.proofs.Words.{corner_words}
 
 then_same : (o p r : Ordering) → (o ≡ Equal → p ≡ r) → ordering_then o p ≡ ordering_then o r

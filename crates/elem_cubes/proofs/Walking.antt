@@ -1,5 +1,5 @@
 -- Walks along the axes of a cell.
-use Rattle.std.proofs.Common.{◌≡◌, ◌≢◌, ℕ, zero, suc, ◌+◌, ◌-◌, ◌<◌, ◌≤◌, refl, sym, ap, ◌∙◌, subst, arith, List, [], ◌∷◌, ◌++◌, length, take, drop, get_or, set, map, append_assoc, Bool, true, false, not, cond, true≢false, Some, None}
+use Rattle.std.proofs.Common.{◌≡◌, ℕ, zero, suc, ◌+◌, ◌-◌, ◌<◌, ◌≤◌, refl, sym, ap, ◌∙◌, arith, List, [], ◌∷◌, ◌++◌, length, take, drop, get_or, set, map, Bool, true, false, not, cond, true≢false, Some, None}
 use mathlib.Core.Bool.{beq}
 use Rattle.std.specs.Prelude.{ℤ, pos, negsuc, neg_ℤ, ◌+ℤ◌}
 use Rattle.std.specs.List.{prefix_len}
@@ -8,7 +8,7 @@ use Rattle.std.proofs.Math.Seq.{take-add}
 use Rattle.std.proofs.Math.ListN.{drop_of_length-le}
 use Rattle.std.proofs.lemmas.List.{take_more, drop-drop, get_or-drop, length-drop}
 use Rattle.elem_cubes.specs.Cells.{Factor, point, interval, low, high, is_wide}
-use Rattle.elem_cubes.specs.Faces.{turned, behind, changed, ends_of, intervals_at, faces_of, cofaces_of}
+use Rattle.elem_cubes.specs.Faces.{turned, behind, changed, ends_of, intervals_at}
 use Rattle.elem_cubes.specs.Walks.{factor_at, is_wide_as, is_turned, sign_of, behind_all, left, KeepsWalk}
 use Rattle.elem_cubes.proofs.Making.{drop_next}
 

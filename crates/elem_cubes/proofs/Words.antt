@@ -1,5 +1,5 @@
 -- Coordinates read two at a time: the list of the words, and that their order is that of the coordinates.
-use Rattle.std.proofs.Common.{◌≡◌, ℕ, zero, suc, ◌+◌, ◌-◌, ◌*◌, ◌<◌, ◌≤◌, refl, sym, ap, ◌∙◌, subst, arith, List, [], ◌∷◌, ◌++◌, length, take, get_or, set, replicate, append_assoc, length-append, length-take, Bool, true, false, IsTrue, ◌&&◌}
+use Rattle.std.proofs.Common.{◌≡◌, ℕ, zero, suc, ◌+◌, ◌-◌, ◌*◌, ◌<◌, ◌≤◌, refl, sym, ap, ◌∙◌, arith, List, [], ◌∷◌, ◌++◌, length, take, get_or, set, replicate, append_assoc, length-append, length-take, Bool, true, IsTrue, ◌&&◌}
 use Rattle.std.specs.Prelude.{ℤ, pos, negsuc, ◌+ℤ◌, ◌<ℤ◌, ◌≤ℤ◌, int_le, nat_le}
 use Rattle.std.specs.List.{list_all}
 use Rattle.std.specs.Cmp.{int_cmp_is, tied_itself}
@@ -16,7 +16,7 @@ use Rattle.elem_cubes.specs.declared.range.TheConstants.{LOW, HIGH, MAX_EMBEDDIN
 use Rattle.elem_cubes.specs.declared.packed.TheConstants.{PADDING, WORDS}
 use Rattle.elem_cubes.specs.Corners.{is_end, is_corner, corner_cmp}
 use Rattle.elem_cubes.specs.Packed.{padded, word, words_of, KeepsCorner}
-use Rattle.elem_cubes.proofs.Tests.{both, left, right}
+use Rattle.elem_cubes.proofs.Conjunctions.{both, left, right}
 
 -- ---- the list of the words
 

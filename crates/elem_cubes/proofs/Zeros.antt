@@ -1,6 +1,6 @@
 -- A coefficient that is not 0 is that of a facet.
 use Rattle.std.proofs.Common.{◌≡◌, ℕ, ◌+◌, ◌-◌, ◌*◌, ◌⊎◌, inl, inr, refl, sym, ap, ◌∙◌, subst, arith, ⊎_elim, List, [], ◌∷◌, Bool, true, false, cond, true≢false}
-use Rattle.std.specs.Prelude.{ℤ, pos, ◌+ℤ◌}
+use Rattle.std.specs.Prelude.{pos, ◌+ℤ◌}
 use Rattle.std.specs.Ordering.{int_eq}
 use Rattle.elem_cubes.specs.Cells.{Factor, point, interval, dimension_of, same_cell}
 use Rattle.elem_cubes.specs.Faces.{IsFace}
@@ -46,4 +46,3 @@ face_or_zero p (interval l ∷ qs) (point m ∷ rs) =
     ⊎_elim (λ u. inl ((inr (sym u), k), d)) (λ u. ⊎_elim (λ v. inl ((inl (sym v), k), d)) (λ v. inr (ends-none p (same_cell qs rs) (int_eq (l +ℤ pos 1) m) (int_eq l m) u v)) (int_same l m)) (int_same (l +ℤ pos 1) m))
     (λ n. inr (rw n refl))
     (cell_cases qs rs)
-

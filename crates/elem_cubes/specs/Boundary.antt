@@ -1,5 +1,5 @@
 -- The cubical boundary modulo p, in two forms (Kaczynski, Mischaikow, Mrozek, Computational Homology, 2004, section 2.2).
-use Rattle.std.specs.Prelude.{ℕ, ◌+◌, ◌-◌, ◌*◌, ℤ, pos, negsuc, ◌+ℤ◌, List, [], ◌∷◌, Bool, ◌&&◌, if◌then◌else◌}
+use Rattle.std.specs.Prelude.{ℕ, ◌+◌, ◌-◌, ◌*◌, ℤ, pos, negsuc, ◌+ℤ◌, List, [], ◌∷◌, if◌then◌else◌}
 use Rattle.std.specs.Ordering.{int_eq}
 use Rattle.elem_cubes.specs.Cells.{Factor, point, interval, same_factor, same_cell}
 

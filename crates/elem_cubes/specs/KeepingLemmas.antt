@@ -1,5 +1,5 @@
 -- What the model of a cell owes: its fields are those that its factors give.
-use Rattle.std.proofs.Common.{◌≡◌, ℕ, zero, suc, ◌+◌, ◌*◌, ◌/◌, ◌%◌, ◌^◌, ◌<◌, ◌-◌, ◌++◌, refl, sym, ap, ◌∙◌, arith, List, [], ◌∷◌, length, take, replicate, Bool, true, false, cond, eqb}
+use Rattle.std.proofs.Common.{◌≡◌, ℕ, zero, suc, ◌+◌, ◌*◌, ◌/◌, ◌%◌, ◌^◌, ◌<◌, refl, sym, ap, ◌∙◌, arith, List, [], ◌∷◌, length, take, Bool, true, false, cond, eqb}
 use Rattle.std.specs.Prelude.{ℤ}
 use Rattle.std.proofs.Math.Nat.{pow-suc}
 use Rattle.elem_cubes.specs.declared.range.TheConstants.{MAX_EMBEDDING}

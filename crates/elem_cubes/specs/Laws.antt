@@ -1,11 +1,11 @@
 -- Laws of cells: each is the contract of a function of the crate with an empty body.
-use Rattle.std.specs.Prelude.{◌≡◌, ◌≢◌, ◌↔◌, true, ℕ, ◌+◌, ◌*◌, ◌<◌, ◌≤◌, ℤ, List, [], ◌∷◌, length, slice_index_or}
+use Rattle.std.specs.Prelude.{◌≡◌, ◌≢◌, ◌↔◌, true, ℕ, ◌*◌, ◌<◌, ◌≤◌, ℤ, List, [], length, slice_index_or}
 use Rattle.std.specs.List.{Contains}
 use Rattle.std.specs.Cmp.{IsTotalOrder}
 use Rattle.std.specs.declared.cmp.Ordering.TheVariants.{Equal}
 use Rattle.field_mod.specs.Sums.{total}
 use Rattle.field_mod.specs.Modular.{Same}
-use Rattle.elem_cubes.specs.Cells.{Factor, lower_of, upper_of, axes_of, cell_of, same_cell, dimension_of}
+use Rattle.elem_cubes.specs.Cells.{Factor, lower_of, upper_of, axes_of, cell_of, same_cell}
 use Rattle.elem_cubes.specs.Faces.{IsFace, IsFacet, faces_of, cofaces_of, closure_of}
 use Rattle.elem_cubes.specs.Boundary.{residue, boundary_coefficient, boundary_at, boundary_pairing, signed_sum}
 use Rattle.elem_cubes.specs.Order.{cell_cmp}

@@ -1,6 +1,6 @@
 -- What the impls of `PartialEq`, `Eq`, `PartialOrd`, `Ord` and `Hash` of a cell owe.
-use Rattle.std.proofs.Common.{◌≡◌, ℕ, refl, sym, ap, ◌∙◌, arith, List, [], ◌∷◌, Bool, true, false, ◌⊎◌, inl, inr, ⊎_elim, ◌&&◌, true≢false}
-use Rattle.std.specs.Prelude.{ℤ, pos, ◌+ℤ◌, Some, IsTrue}
+use Rattle.std.proofs.Common.{◌≡◌, refl, sym, ap, ◌∙◌, arith, List, [], ◌∷◌, true, false, ◌⊎◌, inl, inr, ⊎_elim, ◌&&◌, true≢false}
+use Rattle.std.specs.Prelude.{ℤ, pos, ◌+ℤ◌, IsTrue}
 use Rattle.std.specs.Bool.{Decides}
 use Rattle.std.specs.Cmp.{IsPartialEquivalence, IsEquivalence, IsTotalOrder, IsPartialOrder, both_ways, partial_equiv_from_equiv, partial_order_from_agreeing_total, Equal-is, tied_itself}
 use Rattle.std.specs.Cmp.Lexicographic.{slice_cmp, lists_ties}

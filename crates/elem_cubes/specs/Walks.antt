@@ -1,5 +1,5 @@
 -- Walks along the axes of a cell: what an iterator over its faces, its cofaces or its closure has left.
-use Rattle.std.specs.Prelude.{◌≡◌, ℕ, ◌+◌, ◌<◌, ◌≤◌, ◌/◌, ◌%◌, ℤ, pos, negsuc, List, [], ◌∷◌, length, take, drop, map, Bool, true, false, not, if◌then◌else◌, slice_index_or}
+use Rattle.std.specs.Prelude.{◌≡◌, ℕ, ◌<◌, ◌≤◌, ◌/◌, ◌%◌, ℤ, pos, negsuc, List, [], ◌∷◌, length, take, drop, map, Bool, true, false, not, if◌then◌else◌, slice_index_or}
 use Rattle.elem_cubes.specs.Cells.{Factor, point, interval, is_wide}
 use Rattle.elem_cubes.specs.Faces.{behind, changed, parts_of}
 

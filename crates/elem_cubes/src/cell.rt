@@ -380,9 +380,9 @@ impl Ord for Cell {
     ghost matches_eq = { cell_cmp_ties };
 
     fn cmp(&self, other: &Cell) -> Ordering {
-        words(&self.ends)
-            .cmp(&words(&other.ends))
-            .then(compare_axes(self.axes, other.axes))
+        let lower = words(&self.ends).cmp(&words(&other.ends));
+        let upper = compare_axes(self.axes, other.axes);
+        lower.then(upper)
     }
 }
 

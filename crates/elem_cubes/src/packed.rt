@@ -10,7 +10,7 @@ use crate::range::{HIGH, LOW, MAX_EMBEDDING};
 pub(crate) const PADDING: i32 = i32::MIN;
 
 /// How many words the coordinates fill, two to a word.
-pub(crate) const WORDS: usize = 2;
+pub(crate) const WORDS: usize = MAX_EMBEDDING / 2;
 
 pub(crate) fn is_end(x: i32) -> bool
     ensures { result ≡ is_end x }

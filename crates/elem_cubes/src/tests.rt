@@ -57,7 +57,9 @@ fn points_on_an_axis_turn_no_sign(rt: HostRuntime) -> Result<(), Fail> {
 
 #[test]
 fn cofaces_of_an_edge_go_upward_and_downward(rt: HostRuntime) -> Result<(), Fail> {
-    let mut cofaces = cell(&rt, &[0, 5, 9], 1).cofaces();
+    let edge = cell(&rt, &[0, 5, 9], 1);
+    assert!(rt; edge.in_range());
+    let mut cofaces = edge.cofaces();
     assert!(rt; cofaces.next() == Some((cell(&rt, &[0, 5, 9], 3), 1)));
     assert!(rt; cofaces.next() == Some((cell(&rt, &[0, 4, 9], 3), -1)));
     assert!(rt; cofaces.next() == Some((cell(&rt, &[0, 5, 9], 5), 1)));
@@ -68,7 +70,9 @@ fn cofaces_of_an_edge_go_upward_and_downward(rt: HostRuntime) -> Result<(), Fail
 
 #[test]
 fn cofaces_of_a_point_have_it_as_their_lower_end_first(rt: HostRuntime) -> Result<(), Fail> {
-    let mut cofaces = cell(&rt, &[3, 0], 0).cofaces();
+    let point = cell(&rt, &[3, 0], 0);
+    assert!(rt; point.in_range());
+    let mut cofaces = point.cofaces();
     assert!(rt; cofaces.next() == Some((cell(&rt, &[3, 0], 1), -1)));
     assert!(rt; cofaces.next() == Some((cell(&rt, &[2, 0], 1), 1)));
     assert!(rt; cofaces.next() == Some((cell(&rt, &[3, 0], 2), -1)));

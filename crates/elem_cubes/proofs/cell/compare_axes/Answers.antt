@@ -1,6 +1,6 @@
-use Rattle.std.proofs.Common.{◌≡◌, ◌<◌, ◌+◌, ◌∙◌, sym, arith}
+use Rattle.std.proofs.Common.{◌∙◌, sym, arith}
 use Rattle.std.specs.Prelude.{bit_xor}
-use Rattle.std.specs.Int.{bit_at, w8, trailing_zeros}
+use Rattle.std.specs.Int.{w8, trailing_zeros}
 use Rattle.std.proofs.lemmas.Nat.{xor_lt}
 use Rattle.std.proofs.lemmas.Nat.Bits.{shr_and_one, bit_at-lt}
 use Rattle.elem_cubes.proofs.Uppers.{DifferFirst, differ_first, greater_uppers, less_uppers, equal_uppers, same_from_xor}

@@ -1,4 +1,4 @@
-use Rattle.std.proofs.Common.{arith, ◌∙◌, pos, ◌*◌, ◌+◌, rules, sym, ◌≡◌, ap, get_or}
+use Rattle.std.proofs.Common.{arith, ◌∙◌, pos, ◌*◌, ◌+◌, rules, get_or}
 use Rattle.std.specs.Int.{w32, w64}
 use Rattle.std.specs.Prelude.{FitsSigned}
 use Rattle.std.proofs.lemmas.Int.{to_z-of_z}

@@ -1,4 +1,4 @@
-use Rattle.std.proofs.Common.{◌≡◌, ◌∙◌, ap, sym, cond, take}
+use Rattle.std.proofs.Common.{◌∙◌, ap, cond, take}
 use Rattle.std.specs.Prelude.{Some, None}
 use Rattle.elem_cubes.specs.Cells.{is_cell, full_cell}
 use Rattle.elem_cubes.proofs.Making.{makes_full}

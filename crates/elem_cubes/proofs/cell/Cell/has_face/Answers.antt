@@ -1,4 +1,4 @@
-use Rattle.std.proofs.Common.{◌≡◌, ◌∙◌, ap, sym, length, eqb-true, true}
+use Rattle.std.proofs.Common.{◌≡◌, ◌∙◌, ap, sym, length, eqb-true}
 use Rattle.std.proofs.lemmas.List.{length-map}
 use Rattle.elem_cubes.specs.Cells.{cell_of, low}
 use Rattle.elem_cubes.specs.Faces.{is_face}

@@ -1,4 +1,4 @@
-use Rattle.std.proofs.Common.{◌≡◌, ◌∙◌, ap, sym}
+use Rattle.std.proofs.Common.{◌∙◌, ap, sym}
 use Rattle.std.specs.List.{list_all}
 use Rattle.elem_cubes.specs.Cells.{is_file_factor, cell_of}
 use Rattle.elem_cubes.proofs.Keeping.{parts_kept}

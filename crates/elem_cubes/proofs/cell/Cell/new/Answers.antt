@@ -1,7 +1,7 @@
-use Rattle.std.proofs.Common.{◌≡◌, ◌∙◌, ap, sym, List, true, IsTrue}
-use Rattle.std.specs.Prelude.{ℤ, Some, None, Option}
+use Rattle.std.proofs.Common.{◌∙◌, ap, sym}
+use Rattle.std.specs.Prelude.{Some, None}
 use Rattle.std.specs.List.{list_all}
-use Rattle.elem_cubes.specs.Cells.{Factor, is_factor, cell_of}
+use Rattle.elem_cubes.specs.Cells.{is_factor, cell_of}
 use Rattle.elem_cubes.proofs.Making.{new_kept, new_seen, makes}
 use Rattle.elem_cubes.proofs.cell.Cell.new.Goals as goal
 

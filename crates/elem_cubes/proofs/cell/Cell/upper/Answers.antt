@@ -1,4 +1,4 @@
-use Rattle.std.proofs.Common.{◌≡◌, ◌∙◌, ap, sym, subst, IsTrue, List, length, take, ◌-◌, pos}
+use Rattle.std.proofs.Common.{sym, subst, IsTrue, List, length, take, ◌-◌, pos}
 use Rattle.std.specs.Prelude.{ℤ, int_lt}
 use Rattle.std.specs.List.{list_all}
 use Rattle.elem_cubes.specs.declared.range.TheConstants.{MAX_EMBEDDING}

@@ -1,6 +1,6 @@
-use Rattle.std.proofs.Common.{◌<◌, ◌≤◌, ◌*◌, ◌%◌, ◌^◌, arith, take, length}
-use Rattle.std.specs.Prelude.{bit_and, bit_or}
-use Rattle.std.specs.Int.{w8, w32, bit_not}
+use Rattle.std.proofs.Common.{◌<◌, ◌≤◌, ◌*◌, ◌%◌, ◌^◌, arith, take}
+use Rattle.std.specs.Prelude.{bit_or}
+use Rattle.std.specs.Int.{w32}
 use Rattle.std.proofs.lemmas.Int.{to_z-of_z}
 use Rattle.elem_cubes.specs.Cells.{interval}
 use Rattle.elem_cubes.proofs.Bits.{interval_set, interval_few}

@@ -1,4 +1,4 @@
-use Rattle.std.proofs.Common.{◌≡◌, ap, ◌∙◌, sym, [], ◌∷◌}
+use Rattle.std.proofs.Common.{ap, ◌∙◌, sym, [], ◌∷◌}
 use Rattle.std.specs.List.{fold, flat_map}
 use Rattle.std.specs.Hash as fed
 use Rattle.std.proofs.lemmas.List.Sums.{fold-append}

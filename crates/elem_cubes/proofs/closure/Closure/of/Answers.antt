@@ -1,4 +1,4 @@
-use Rattle.std.proofs.Common.{◌≡◌, ◌≤◌, ◌<◌, ◌^◌, ◌∙◌, ap, sym, arith}
+use Rattle.std.proofs.Common.{◌^◌, ◌∙◌, ap, sym, arith}
 use Rattle.elem_cubes.proofs.Choosing.{few_faces, length-closure}
 use Rattle.elem_cubes.proofs.closure.Closure.of.Goals as goal
 

@@ -1,4 +1,4 @@
-use Rattle.std.proofs.Common.{◌≡◌, ◌<◌, ◌+◌, ◌∙◌, ap, sym, arith, [], ◌∷◌, length, drop}
+use Rattle.std.proofs.Common.{◌<◌, ◌+◌, ◌∙◌, ap, sym, arith, [], ◌∷◌, length, drop}
 use Rattle.elem_cubes.specs.Faces.{closure_of}
 use Rattle.elem_cubes.proofs.Making.{drop_next}
 use Rattle.elem_cubes.proofs.Choosing.{closure_read}

@@ -1,11 +1,11 @@
-use Rattle.std.proofs.Common.{◌≡◌, ℕ, ◌<◌, ◌≤◌, ◌+◌, ◌∙◌, ap, sym, refl, arith, rules, List, [], ◌∷◌, length, take, drop, Bool, true, false, not}
+use Rattle.std.proofs.Common.{◌≡◌, ℕ, ◌<◌, ◌≤◌, ◌+◌, ◌∙◌, ap, sym, refl, arith, rules, List, ◌∷◌, length, drop, Bool, true, false, not}
 use Rattle.std.specs.Prelude.{ℤ, FitsSigned}
 use Rattle.std.specs.Int.{w8}
 use Rattle.std.specs.List.{prefix_len}
 use Rattle.std.proofs.lemmas.Int.{to_z-of_z}
 use Rattle.elem_cubes.specs.Cells.{Factor, is_wide}
 use Rattle.elem_cubes.specs.Faces.{intervals_at}
-use Rattle.elem_cubes.specs.Walks.{factor_at, is_wide_as, is_turned, sign_of, left}
+use Rattle.elem_cubes.specs.Walks.{factor_at, is_wide_as, sign_of, left}
 use Rattle.elem_cubes.proofs.Walking.{left_skip, left_end, stops_at, no_intervals, cofaces_first, cofaces_second, gave, keeps_second, keeps_next}
 use Rattle.elem_cubes.proofs.cofaces.CofacesIterator.next.Goals as goal
 
@@ -35,15 +35,18 @@ pub returns-then-axis-len-clause-steps : goal.returns-then-axis-len-clause-steps
 returns-then-axis-len-clause-steps c =
     let q = c.self.inside.cell in
     let n = c.next_axis-axis.result.0 in
-    let e = c.if-axis-len.true ∙ c.len.ensures.len in
-    (at_next q c.self.inside.axis c.self.inside.second c.args.self.now n c.self.view_is c.if-self.false c.next_axis-axis.ensures.place ∙ left_end intervals_at q n false e refl,
-     left_end intervals_at q n c.self.inside.second e c.if-self.false)
+    let e = c.if-axis-len.true ∙ c.len.ensures.len in (
+      at_next q c.self.inside.axis c.self.inside.second c.args.self.now n c.self.view_is c.if-self.false c.next_axis-axis.ensures.place ∙ left_end intervals_at q n false e refl,
+      left_end intervals_at q n c.self.inside.second e c.if-self.false,
+    )
 
 pub invariant_of-self-2 : goal.invariant_of-self-2
 invariant_of-self-2 c =
-    let h : c.next_axis-axis.result.0 < length c.self.inside.cell = omega (arith, c.len.ensures.len, c.if-axis-len.false, c.next_axis-axis.ensures.within) in
-    (keeps_second false c.self.inside.cell c.next_axis-axis.result.0 c.next_axis-axis.result.1 h c.next_axis-axis.ensures.signed
-        (narrow_at c.self.inside.cell c.self.inside.axis c.next_axis-axis.result.0 c.next_axis-axis.ensures.place h c.self.invariant.0.within), c.self.invariant.1)
+    let h : c.next_axis-axis.result.0 < length c.self.inside.cell = omega (arith, c.len.ensures.len, c.if-axis-len.false, c.next_axis-axis.ensures.within) in (
+      keeps_second false c.self.inside.cell c.next_axis-axis.result.0 c.next_axis-axis.result.1 h c.next_axis-axis.ensures.signed
+          (narrow_at c.self.inside.cell c.self.inside.axis c.next_axis-axis.result.0 c.next_axis-axis.ensures.place h c.self.invariant.0.within),
+      c.self.invariant.1,
+    )
 
 pub returns-clause-steps : goal.returns-clause-steps
 returns-clause-steps c =
