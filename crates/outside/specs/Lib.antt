@@ -1,3 +1,4 @@
+-- The definitions that the contracts of `outside` cite.
 pub mod Told
 pub mod Causes
 pub mod Disk

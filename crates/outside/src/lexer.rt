@@ -1,6 +1,5 @@
 //! The tokens of a text.
-ghost use Rattle.std.specs.Prelude.{◌≡◌, ◌+◌, ◌-◌, ◌*◌, ◌^◌, ◌<◌, ◌≤◌, ℕ, [], ◌∷◌, length, take, drop, take_while, IfSome, IfNone, Some, None, min};
-ghost use Rattle.std.specs.Char.{is_ascii_alphabetic};
+ghost use Rattle.std.specs.Prelude.{◌≡◌, ◌+◌, ◌-◌, ◌*◌, ◌^◌, ◌≤◌, ℕ, length, drop, Some, min};
 ghost use Rattle.outside.specs.Tokens.{is_blank, is_mark, digits_of, digits_value, letters_of, line_of, number_of, dashed, dashed_size};
 ghost use Rattle.outside.specs.Lexing.{said, size_of, token_of, further, FollowsBlanks, Lexes, StandsAt};
 
@@ -79,23 +78,16 @@ impl<'a> Lexer<'a> {
 fn is_blank(b: u8) -> bool
     ensures { result ≡ is_blank b }
 {
-    b == b' ' || b == b'\t' || b == b'\r' || b == b'\n' || b == b','
+    matches!(b, b' ' | b'\t' | b'\r' | b'\n' | b',')
 }
 
 fn is_mark(b: u8) -> bool
     ensures { result ≡ is_mark b }
 {
-    b == b'('
-        || b == b')'
-        || b == b'['
-        || b == b']'
-        || b == b'{'
-        || b == b'}'
-        || b == b':'
-        || b == b'#'
-        || b == b'='
-        || b == b'*'
-        || b == b'+'
+    matches!(
+        b,
+        b'(' | b')' | b'[' | b']' | b'{' | b'}' | b':' | b'#' | b'=' | b'*' | b'+'
+    )
 }
 
 // How many bytes there are up to the next line feed.

@@ -1,5 +1,5 @@
 //! Files and a sink that never fail, and a gate that is always open.
-ghost use Rattle.std.specs.Prelude.{◌≡◌, ◌≤◌, ◌^◌, Some, None, string_bytes, false, IsOk, if◌then◌else◌};
+ghost use Rattle.std.specs.Prelude.{◌≡◌, Some, None, string_bytes, false, IsOk, if◌then◌else◌};
 ghost use Rattle.outside.specs.Disk.{held};
 
 use crate::memory::{copy_from, place_of};

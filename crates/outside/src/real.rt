@@ -15,8 +15,12 @@ pub struct RealFiles<R: std::rt::Files + Drop> {
 }
 
 impl<R: std::rt::Files + Drop> RealFiles<R> {
-    /// Takes no memory.
-    pub fn of(rt: R) -> Self {
+    /// All counts begin at 0. Takes no memory.
+    pub fn of(rt: R) -> Self
+        ensures read_faults { ⟦<RealFiles<R> as Files>⟧.read_faults result ≡ (λ _. 0) }
+        ensures write_faults { ⟦<RealFiles<R> as Files>⟧.write_faults result ≡ (λ _. 0) }
+        ensures given { ⟦<RealFiles<R> as Files>⟧.given result ≡ 0 }
+    {
         RealFiles {
             rt,
             read_faults: 0,
@@ -106,8 +110,10 @@ pub struct RealSink<W: Write + Drop> {
 }
 
 impl<W: Write + Drop> RealSink<W> {
-    /// Takes no memory.
-    pub fn of(inner: W) -> Self {
+    /// The count of faults begins at 0. Takes no memory.
+    pub fn of(inner: W) -> Self
+        ensures { ⟦<RealSink<W> as Sink>⟧.faults result ≡ 0 }
+    {
         RealSink { inner, faults: 0 }
     }
 }

@@ -1,8 +1,11 @@
 //! Each public call once, on values from outside.
+ghost use Rattle.std.specs.Prelude.{◌≤◌, ◌^◌, length};
+
 use crate::*;
 use std::alloc::Global;
 use std::fs;
 use std::fs::File;
+use std::process::Abort;
 use std::test::Fail;
 
 const TEXT: &[u8] = b"(0 0)";
@@ -19,61 +22,67 @@ fn files(alloc: Global, failing: &[u64]) -> Result<MemFiles, Fail> {
     Ok(MemFiles::of(alloc, held, Vec::from_slice(alloc, failing)?))
 }
 
+// The whole file has these bytes, and a limit of one less refuses it.
+fn holds<F: Files>(
+    rt: &(impl Abort + AllocGlobal),
+    files: &mut F,
+    name: &str,
+    bytes: &[u8],
+) -> Result<(), Fail>
+    requires { length bytes.now ≤ 2 ^ 30 }
+{
+    let limit = bytes.len() as u64;
+    let found = read_whole(rt.alloc(), files, name, limit)?;
+    assert_eq!(rt; found.as_slice(), bytes);
+    if limit > 0 {
+        refuses(rt, files, name, limit - 1, ReadFault::TooLong);
+    }
+    Ok(())
+}
+
+fn refuses<F: Files>(
+    rt: &(impl Abort + AllocGlobal),
+    files: &mut F,
+    name: &str,
+    limit: u64,
+    fault: ReadFault,
+)
+    requires { limit ≤ 2 ^ 30 }
+{
+    assert_eq!(rt;
+        read_whole(rt.alloc(), files, name, limit).err(),
+        Some(fault)
+    );
+}
+
 #[test]
 fn whole_files_have_at_most_the_limit(rt: HostRuntime) -> Result<(), Fail> {
     let alloc = rt.alloc();
-    let mut five = files(alloc, &[])?;
-    let bytes = read_whole(alloc, &mut five, "q", 5)?;
-    assert_eq!(rt; bytes.as_slice(), TEXT);
-    assert_eq!(rt;
-        read_whole(alloc, &mut five, "q", 4).err(),
-        Some(ReadFault::TooLong)
-    );
-    assert_eq!(rt;
-        read_whole(alloc, &mut five, "p", 5).err(),
-        Some(ReadFault::Failed)
-    );
-    let mut failing = files(alloc, &[2])?;
-    assert_eq!(rt;
-        read_whole(alloc, &mut failing, "q", 5).err(),
-        Some(ReadFault::Failed)
-    );
+    holds(&rt, &mut files(alloc, &[])?, "q", TEXT)?;
+    refuses(&rt, &mut files(alloc, &[])?, "p", 5, ReadFault::Failed);
+    refuses(&rt, &mut files(alloc, &[2])?, "q", 5, ReadFault::Failed);
     Ok(())
 }
 
 #[test]
 fn memory_keeps_what_is_appended(rt: HostRuntime) -> Result<(), Fail> {
-    let alloc = rt.alloc();
-    let mut held = files(alloc, &[3])?;
+    let mut held = files(rt.alloc(), &[3])?;
     assert_eq!(rt; held.append("q", b"[1]", false), Ok(()));
     assert_eq!(rt; held.append("w", b"new", false), Ok(()));
     assert_eq!(rt; held.append("w", b"lost", true), Err(Failed));
-    assert_eq!(rt; held.append("w", b"er", false), Ok(()));
-    assert_eq!(rt;
-        read_whole(alloc, &mut held, "q", 100)?.as_slice(),
-        b"(0 0)[1]".as_slice()
-    );
-    assert_eq!(rt;
-        read_whole(alloc, &mut held, "w", 100)?.as_slice(),
-        b"newer".as_slice()
-    );
-    assert_eq!(rt; held.append("q", b"", true), Ok(()));
-    assert_eq!(rt; read_whole(alloc, &mut held, "q", 0)?.len(), 0);
     assert_eq!(rt; held.refused(), 0);
-    Ok(())
+    holds(&rt, &mut held, "q", b"(0 0)[1]")?;
+    holds(&rt, &mut held, "w", b"new")
 }
 
 #[test]
 fn sinks_in_memory_take_a_few_bytes_at_a_time(rt: HostRuntime) -> Result<(), Fail> {
     let alloc = rt.alloc();
-    let mut sink = MemSink::of(alloc, Vec::new(alloc), 5);
+    let mut sink = MemSink::of(alloc, Vec::from_slice(alloc, &[4])?, 5);
     assert_eq!(rt; send_all(&mut sink, b"H_0 = Z_2\n"), Ok(()));
-    assert_eq!(rt; sink.bytes(), b"H_0 = Z_2\n".as_slice());
-    let mut failing = MemSink::of(alloc, Vec::from_slice(alloc, &[2])?, 5);
-    assert_eq!(rt; send_all(&mut failing, b"H_0 = Z_2\n"), Err(Failed));
-    assert_eq!(rt; failing.bytes(), b"H_0 =".as_slice());
-    assert_eq!(rt; failing.write(b" Z_2"), Ok(4));
-    assert_eq!(rt; failing.refused(), 0);
+    assert_eq!(rt; send_all(&mut sink, b"H_1 = 0\n"), Err(Failed));
+    assert_eq!(rt; sink.bytes(), b"H_0 = Z_2\nH_1 =".as_slice());
+    assert_eq!(rt; sink.refused(), 0);
     Ok(())
 }
 
@@ -81,10 +90,9 @@ fn sinks_in_memory_take_a_few_bytes_at_a_time(rt: HostRuntime) -> Result<(), Fai
 fn quiet_objects_never_fail(rt: HostRuntime) -> Result<(), Fail> {
     let alloc = rt.alloc();
     let mut held = QuietFiles::of(vec![in alloc; file(alloc, "q", TEXT)?]?);
-    assert_eq!(rt; read_whole(alloc, &mut held, "q", 5)?.as_slice(), TEXT);
-    assert_eq!(rt; read_whole(alloc, &mut held, "p", 5)?.len(), 0);
     assert_eq!(rt; held.append("q", b"dropped", true), Ok(()));
-    assert_eq!(rt; read_whole(alloc, &mut held, "q", 5)?.as_slice(), TEXT);
+    holds(&rt, &mut held, "q", TEXT)?;
+    holds(&rt, &mut held, "p", b"")?;
     assert_eq!(rt; send_all(&mut QuietSink::new(), b"dropped"), Ok(()));
     OpenGate.enter(0);
     OpenGate.leave(0);
@@ -93,39 +101,18 @@ fn quiet_objects_never_fail(rt: HostRuntime) -> Result<(), Fail> {
 
 #[test]
 fn real_files_and_sinks_meet_on_the_disk(rt: HostRuntime) -> Result<(), Fail> {
-    const NAME: &str = "outside_real_files.tmp";
-    let alloc = rt.alloc();
-    let mut sink = RealSink::of(File::create(&rt, NAME)?);
+    let name = "outside_real_files.tmp";
+    let mut sink = RealSink::of(File::create(&rt, name)?);
     assert_eq!(rt; send_all(&mut sink, TEXT), Ok(()));
     drop(sink);
     let mut real = RealFiles::of(rt.clone()?);
-    assert_eq!(rt; real.append(NAME, b" (1 1)", false), Ok(()));
-    let mut part = [0u8; 3];
-    assert_eq!(rt; real.read_at(NAME, 6, &mut part), Ok(3));
-    assert_eq!(rt; part.as_slice(), b"(1 ".as_slice());
-    assert_eq!(rt;
-        read_whole(alloc, &mut real, NAME, 11)?.as_slice(),
-        b"(0 0) (1 1)".as_slice()
-    );
-    assert_eq!(rt;
-        read_whole(alloc, &mut real, NAME, 10).err(),
-        Some(ReadFault::TooLong)
-    );
-    assert_eq!(rt; real.append(NAME, b"anew", true), Ok(()));
-    assert_eq!(rt;
-        read_whole(alloc, &mut real, NAME, 11)?.as_slice(),
-        b"anew".as_slice()
-    );
-    fs::remove_file(&rt, NAME)?;
-    assert_eq!(rt;
-        read_whole(alloc, &mut real, NAME, 11).err(),
-        Some(ReadFault::Failed)
-    );
-    assert_eq!(rt;
-        read_whole(alloc, &mut real, ".", 11).err(),
-        Some(ReadFault::Failed)
-    );
-    assert_eq!(rt; real.append(".", b"no", false), Err(Failed));
+    assert_eq!(rt; real.append(name, b" (1 1)", false), Ok(()));
+    holds(&rt, &mut real, name, b"(0 0) (1 1)")?;
+    assert_eq!(rt; real.append(name, b"anew", true), Ok(()));
+    holds(&rt, &mut real, name, b"anew")?;
+    fs::remove_file(&rt, name)?;
+    refuses(&rt, &mut real, name, 9, ReadFault::Failed);
+    refuses(&rt, &mut real, ".", 9, ReadFault::Failed);
     Ok(())
 }
 

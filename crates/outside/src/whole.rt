@@ -1,5 +1,5 @@
 //! Whole files, whole texts and numbers.
-ghost use Rattle.std.specs.Prelude.{◌≡◌, ◌++◌, ◌+◌, ◌<◌, ◌≤◌, ◌^◌, length, take, IfOk, OnOk, OnErr, IfSome, IsErrOf};
+ghost use Rattle.std.specs.Prelude.{◌≡◌, ◌++◌, ◌+◌, ◌<◌, ◌≤◌, ◌^◌, length, IfOk, OnOk, OnErr, IfSome, IsErrOf};
 ghost use Rattle.outside.specs.Told.{Gains, GainsFront};
 ghost use Rattle.outside.specs.Causes.{Rose, HasCause, NoneFell, more};
 ghost use Rattle.outside.specs.Disk.{content};

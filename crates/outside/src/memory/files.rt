@@ -1,7 +1,6 @@
 //! Files in memory, whose calls fail by number.
-ghost use Rattle.std.specs.Prelude.{◌≡◌, ◌<◌, ◌≤◌, ◌^◌, ◌+◌, ◌||◌, Some, None, ◌++◌, IfOk, OnOk, OnErr, slice_get, string_bytes, length, IfSome, IfNone, MatchResult, is_err, is_none, min, take};
-ghost use Rattle.outside.specs.Told.{Told};
-ghost use Rattle.outside.specs.Causes.{HasCause, NoneFell, more};
+ghost use Rattle.std.specs.Prelude.{◌≡◌, ◌<◌, ◌≤◌, ◌^◌, ◌+◌, ◌||◌, Some, None, ◌++◌, IfOk, OnOk, OnErr, slice_get, string_bytes, length, IfSome, IfNone, MatchResult, is_err, is_none, take};
+ghost use Rattle.outside.specs.Causes.{HasCause, more};
 ghost use Rattle.outside.specs.Disk.{held, content, kept, Puts, MayPut, ReadsFrom, Tears};
 ghost use Rattle.outside.specs.Memory.{disk_of, faults_of, given_of, refused_of, is_among, next_fails, AreNew, CountsCall, FailsToAppend};
 

@@ -1,3 +1,4 @@
+-- What is left to show of `tokens_by_byte`.
 use Rattle.outside.proofs.ScanningLemmas.{tokens_by_byte}
 use Rattle.outside.proofs.laws.tokens_by_byte.Goals as goal
 

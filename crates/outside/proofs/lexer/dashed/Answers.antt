@@ -1,3 +1,4 @@
+-- What is left to show of `dashed`.
 use Rattle.std.proofs.Common.{◌∙◌, sym, ap, Some}
 use Rattle.outside.proofs.Lexing.{dashed-digit}
 use Rattle.outside.proofs.lexer.dashed.Goals as goal

@@ -1,3 +1,4 @@
+-- What is left to show of `digits`.
 use Rattle.std.proofs.Common.{refl, ◌∙◌, sym, ap, min, ◌≡◌, ◌-◌, ◌^◌, arith}
 use Rattle.outside.specs.Tokens.{digits_value}
 use Rattle.outside.proofs.Lexing.{digit_taken, no_digits, no_digits_left}

@@ -1,3 +1,4 @@
+-- What the loop of `digits` keeps, and what it counts down.
 use Rattle.std.proofs.Common.{◌≡◌, ◌≤◌, ◌-◌, ◌^◌, length, min, drop}
 use Rattle.outside.specs.Tokens.{digits_value, digits_of}
 use Rattle.outside.proofs.lexer.digits.Given as goal

@@ -1,3 +1,4 @@
+-- What is left to show of `first_token`.
 use Rattle.std.proofs.Common.{◌∙◌, sym, refl}
 use Rattle.outside.proofs.Lexing.{token_of-digit, behind_dash, behind_one, size_of-one}
 use Rattle.outside.proofs.lexer.first_token.Goals as goal

@@ -1,3 +1,4 @@
+-- What is left to show of `skip_blanks`.
 use Rattle.std.proofs.Common.{refl, ◌∙◌, sym}
 use Rattle.outside.proofs.Lexing.{passes_blank, passes_comment}
 use Rattle.outside.proofs.lexer.skip_blanks.Goals as goal

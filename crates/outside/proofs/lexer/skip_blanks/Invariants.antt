@@ -1,3 +1,4 @@
+-- What the loop of `skip_blanks` keeps, and what it counts down.
 use Rattle.std.proofs.Common.{length}
 use Rattle.outside.specs.Lexing.{FollowsBlanks}
 use Rattle.outside.proofs.lexer.skip_blanks.Given as goal

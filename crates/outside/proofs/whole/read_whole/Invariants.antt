@@ -1,3 +1,4 @@
+-- What the loop of `read_whole` keeps, and what it counts down.
 use Rattle.std.proofs.Common.{◌≡◌, ◌+◌, ◌-◌, ◌≤◌, ◌^◌, length, take, IfSome}
 use Rattle.outside.specs.Causes.{NoneFell, more}
 use Rattle.outside.specs.Disk.{content}

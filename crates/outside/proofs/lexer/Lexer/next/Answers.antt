@@ -1,3 +1,4 @@
+-- What is left to show of `next`.
 use Rattle.outside.proofs.Lexing.{lexes_from}
 use Rattle.outside.proofs.lexer.Lexer.next.Goals as goal
 

@@ -1,3 +1,4 @@
+-- What is left to show of `copy_from`.
 use Rattle.std.proofs.Common.{drop, length-take, arith}
 use Rattle.outside.proofs.Held.{front_of}
 use Rattle.outside.proofs.memory.files.copy_from.Goals as goal

@@ -1,3 +1,4 @@
+-- What is left to show of `counts_failing`.
 use Rattle.std.proofs.Common.{◌+◌, arith, sym}
 use Rattle.outside.proofs.Absent.{not_among}
 use Rattle.outside.proofs.memory.files.counts_failing.Goals as goal

@@ -1,3 +1,4 @@
+-- What is left to show of `place_of`.
 use Rattle.std.proofs.Common.{◌∙◌, sym, ap, string_bytes}
 use Rattle.std.specs.Str.{bytes_eq}
 use Rattle.outside.proofs.Held.{held_here, named_here, left_further, none_further}

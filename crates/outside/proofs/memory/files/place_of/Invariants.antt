@@ -1,3 +1,4 @@
+-- What the loop of `place_of` keeps, and what it counts down.
 use Rattle.std.proofs.Common.{◌≡◌, drop, take, None, string_bytes}
 use Rattle.outside.specs.Disk.{held}
 use Rattle.outside.proofs.memory.files.place_of.Given as goal

@@ -1,3 +1,4 @@
+-- What is left to show of `put`.
 use Rattle.std.proofs.Common.{string_bytes}
 use Rattle.outside.proofs.Held.{puts_new, puts_anew, puts_more, stays_without_more}
 use Rattle.outside.proofs.memory.files.put.Goals as goal

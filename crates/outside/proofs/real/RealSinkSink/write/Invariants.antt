@@ -1,3 +1,4 @@
+-- What the loop of `write` keeps, and what it counts down.
 use Rattle.std.proofs.Common.{length, ◌-◌, ◌≤◌, ◌≡◌}
 use Rattle.outside.proofs.real.RealSinkSink.write.Given as goal
 

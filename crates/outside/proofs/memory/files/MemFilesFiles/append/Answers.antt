@@ -1,3 +1,4 @@
+-- What is left to show of `append`.
 use Rattle.std.proofs.Common.{◌≡◌, ◌∙◌, sym, inr, arith, Result, Ok, Err, OnOk, OnErr, is_err, true, false}
 use Rattle.outside.proofs.Held.{stays-may, tears-may}
 use Rattle.outside.proofs.memory.files.MemFilesFiles.append.Goals as goal
