@@ -1,0 +1,18 @@
+//! Sets of cells: set files, read and written, and the algebra of sets.
+#![tactic(auto)]
+
+mod corner;
+mod cube_set;
+mod fault;
+mod laws;
+mod opening;
+mod piece;
+mod scanner;
+mod sorted;
+
+pub use cube_set::{CubeSet, are_members};
+pub use fault::{CUBES, Kind, TextCause, TextFault};
+pub use laws::texts_have_one_outcome;
+
+#[cfg(test)]
+mod tests;

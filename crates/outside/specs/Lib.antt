@@ -1,0 +1,10 @@
+-- The definitions that the contracts of `outside` cite.
+pub mod Told
+pub mod Causes
+pub mod Disk
+pub mod Memory
+pub mod Tokens
+pub mod Scanning
+pub mod Standing
+pub mod Lexing
+pub mod Decimal
