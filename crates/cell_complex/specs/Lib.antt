@@ -2,4 +2,5 @@ pub mod RelativeComplex
 pub mod Sorted
 pub mod Numbering
 pub mod Boundaries
+pub mod Gathering
 pub mod Laws
