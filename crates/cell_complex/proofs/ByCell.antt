@@ -1,18 +1,17 @@
 -- Chains by the numbers of the cells and by the cells themselves: the two readings match
-use Rattle.std.proofs.Common.{◌≡◌, ◌≢◌, ◌↔◌, ℕ, zero, suc, ◌+◌, ◌*◌, ◌<◌, ◌≤◌, refl, sym, ap, ◌∙◌, subst, arith, ⊎_elim, List, [], ◌∷◌, length, map, get_or, Bool, true, false, cond, ltb, eqb, eq-eqb, ne_eqb}
-use Rattle.std.proofs.lemmas.Bool.{true≢false, cases_lt, cases_eq, ltb-true, ltb-false, lt-ltb, le-ltb, both_ways}
-use Rattle.std.proofs.lemmas.List.{get_or-map, get_or_past}
+use Rattle.std.proofs.Common.{◌≡◌, ℕ, ◌+◌, ◌<◌, ◌≤◌, refl, sym, ap, ◌∙◌, arith, ⊎_elim, List, [], ◌∷◌, length, get_or, Bool, true, false, cond, ltb, eqb, eq-eqb, ne_eqb}
+use Rattle.std.proofs.lemmas.Bool.{cases_lt, cases_eq, ltb-true, ltb-false, lt-ltb, le-ltb, both_ways}
+use Rattle.std.proofs.lemmas.List.{get_or-map}
 use Rattle.std.proofs.lemmas.List.Sums.{passes_at_first}
-use Rattle.field_mod.specs.Modular.{Same}
-use Rattle.field_mod.proofs.Modular.{same_refl, same_sym, same_trans}
+use Rattle.field_mod.proofs.Modular.{same_sym}
 use Rattle.elem_cubes.specs.Cells.{Factor, dimension_of, same_cell}
 use Rattle.elem_cubes.specs.Laws.{cell_at}
 use Rattle.chains.specs.Terms.{coefficient}
-use Rattle.chains.specs.Homology.{System, IsBasis}
-use Rattle.chains.specs.ChainComplex.{ChainComplex, IsBasisOf, system}
+use Rattle.chains.specs.Homology.{System}
+use Rattle.chains.specs.ChainComplex.{ChainComplex, system}
 use Rattle.cell_complex.specs.RelativeComplex.{is_relative, relative_complex}
 use Rattle.cell_complex.specs.Numbering.{IsRelativeComplex, number_of, by_cell, by_number, cell_coefficient, cell_terms}
-use Rattle.cell_complex.specs.Laws.{BasesAreByNumberOrCell, ChainsAreByNumberOrCell}
+use Rattle.cell_complex.specs.Laws.{BasesAreByNumberOrCell}
 use Rattle.elem_cubes.specs.OrderLemmas.{cell_refl, cell_cases}
 use Rattle.elem_cubes.proofs.Modular.{exact}
 use Rattle.cell_complex.proofs.Deciding.{cell_true}

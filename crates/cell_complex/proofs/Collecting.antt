@@ -1,14 +1,14 @@
 -- A boundary among numbered cells, facet by facet
-use Rattle.std.proofs.Common.{◌≡◌, ℕ, zero, suc, ◌+◌, ◌*◌, ◌%◌, ◌<◌, ◌≤◌, refl, sym, ap, ◌∙◌, subst, arith, ⊎_elim, List, [], ◌∷◌, ◌++◌, length, get_or, map, Bool, true, false, cond, eqb, eq-eqb, ne_eqb}
-use Rattle.std.specs.Prelude.{ℤ, pos, Option, Some, None}
+use Rattle.std.proofs.Common.{◌≡◌, ℕ, ◌+◌, ◌*◌, ◌%◌, ◌<◌, ◌≤◌, sym, ap, ◌∙◌, subst, arith, ⊎_elim, List, [], ◌∷◌, ◌++◌, length, get_or, cond, eqb, eq-eqb, ne_eqb}
+use Rattle.std.specs.Prelude.{ℤ, pos}
 use Rattle.std.specs.List.{Contains}
 use Rattle.std.specs.Int.{int_rem_euclid}
 use Rattle.std.proofs.lemmas.Bool.{cases_lt, cases_eq}
 use Rattle.std.proofs.lemmas.List.{get_or_past, get_or_append_left, get_or_push, length_push, get_or_default}
 use native.Mathlib.Nat.{mod-mod}
 use Rattle.field_mod.specs.Modular.{Same}
-use Rattle.field_mod.proofs.Modular.{same_by, same_refl, same_sym, same_trans, same-add, same-scale}
-use Rattle.elem_cubes.specs.Cells.{Factor, same_cell, dimension_of}
+use Rattle.field_mod.proofs.Modular.{same_refl, same_trans, same-add}
+use Rattle.elem_cubes.specs.Cells.{Factor, same_cell}
 use Rattle.elem_cubes.specs.Faces.{faces_of}
 use Rattle.elem_cubes.specs.Boundary.{residue, boundary_coefficient, signed_sum}
 use Rattle.elem_cubes.specs.Laws.{cell_at}

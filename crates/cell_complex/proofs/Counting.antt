@@ -1,14 +1,13 @@
 -- How many cells two sets have together, and sets of cells in order
-use Rattle.std.proofs.Common.{◌≡◌, ◌⊎◌, ℕ, zero, suc, ◌+◌, ◌-◌, ◌<◌, ◌≤◌, ◌^◌, inl, inr, refl, sym, ap, ◌∙◌, subst, arith, ⊎_elim, List, [], ◌∷◌, ◌++◌, length, get_or, Bool, true, false, cond, ◌&&◌, ◌||◌, ◌==◌, length-append}
+use Rattle.std.proofs.Common.{◌≡◌, ℕ, suc, ◌+◌, ◌<◌, ◌≤◌, ◌^◌, refl, sym, ap, ◌∙◌, arith, ⊎_elim, List, [], ◌∷◌, ◌++◌, length, get_or, Bool, true, false, cond, ◌&&◌, ◌||◌, ◌==◌, length-append}
 use Rattle.std.specs.Prelude.{pos, ◌+ℤ◌, not}
-use Rattle.std.specs.List.{list_any, list_all, flat_map, Contains, IsDistinct, AllByRecursion}
+use Rattle.std.specs.List.{list_any, list_all, flat_map, IsDistinct, AllByRecursion}
 use Rattle.std.specs.List.Sorted.{IsSorted, IsStrictlySortedBy, IsPermutation}
-use Rattle.std.specs.Set.{unique_keys, distinct_count}
+use Rattle.std.specs.Set.{unique_keys}
 use Rattle.std.specs.Ordering.{is_eq, is_lt, ordering_reverse}
 use Rattle.std.specs.declared.cmp.Ordering.{Ordering}
 use Rattle.std.specs.declared.cmp.Ordering.TheVariants.{Less, Equal, Greater}
-use Rattle.std.proofs.lemmas.Bool.{true≢false, cases_Bool, and_parts, and_from, or_cases, not-true, both_ways, eqb-true, eq-eqb}
-use Rattle.std.proofs.lemmas.List.{get_or_default}
+use Rattle.std.proofs.lemmas.Bool.{true≢false, cases_Bool, and_parts, and_from, or_cases, eqb-true, eq-eqb}
 use Rattle.std.proofs.lemmas.List.Elements.{Contains-get_or}
 use Rattle.std.proofs.lemmas.List.Folds.{list_any-append}
 use Rattle.std.proofs.lemmas.List.Sorted.{length_permutation}
@@ -16,7 +15,7 @@ use Rattle.std.proofs.lemmas.Map.Keys.{apart_from_distinct, sorted_from_all_adja
 use Rattle.std.proofs.lemmas.Map.Made.{length-from_keys, length-le_from_is_member}
 use Rattle.std.proofs.lemmas.Map.Views.{list_any-from_Contains}
 use Rattle.indexmap.proofs.CallerLemmas.{Contains-list_any}
-use Rattle.elem_cubes.specs.Cells.{Factor, point, interval, low, high, is_file_factor, same_cell}
+use Rattle.elem_cubes.specs.Cells.{Factor, point, interval, is_file_factor, same_cell}
 use Rattle.elem_cubes.specs.Corners.{is_file_end}
 use Rattle.elem_cubes.specs.Faces.{IsPart, IsFace, is_face, closure_of}
 use Rattle.elem_cubes.specs.Order.{cell_cmp}

@@ -1,7 +1,7 @@
 -- The tests of cells: of being the same cell, of being a face, and of being a cell of a set
 use Rattle.std.proofs.Common.{◌≡◌, ◌↔◌, refl, sym, ap, ◌∙◌, ⊎_elim, subst, List, [], ◌∷◌, ◌++◌, Bool, true, false, ◌&&◌, ◌||◌, get_or}
 use Rattle.std.specs.Prelude.{not}
-use Rattle.std.specs.List.{list_any, Contains}
+use Rattle.std.specs.List.{Contains}
 use Rattle.std.proofs.lemmas.Bool.{or_cases}
 use Rattle.std.proofs.lemmas.List.Folds.{list_any_at, Any-from_list_any, list_any-append}
 use Rattle.elem_cubes.specs.Cells.{Factor, same_cell}

@@ -1,15 +1,14 @@
 -- The signed sum over the facets of a cell gives the coefficients of its boundary; the signs of facets, as the code reads them
-use Rattle.std.proofs.Common.{◌≡◌, ℕ, zero, suc, ◌+◌, ◌-◌, ◌*◌, ◌%◌, ◌/◌, ◌<◌, ◌≤◌, inl, inr, ⊎_elim, refl, sym, ap, ◌∙◌, arith, List, [], ◌∷◌, ◌++◌, map, Bool, true, false, cond, ◌&&◌}
+use Rattle.std.proofs.Common.{◌≡◌, ℕ, ◌+◌, ◌-◌, ◌*◌, ◌%◌, ◌/◌, ◌≤◌, inl, inr, ⊎_elim, refl, sym, ap, ◌∙◌, arith, List, [], ◌∷◌, ◌++◌, map, true, false, cond, ◌&&◌}
 use Rattle.std.specs.Prelude.{ℤ, pos, negsuc, ◌+ℤ◌, neg_ℤ}
 use Rattle.std.specs.Int.{int_rem_euclid}
 use mir.Val.{to_z, of_z}
 use mir.Syntax.{w8, w64}
 use Rattle.std.specs.Ordering.{int_eq}
-use Rattle.std.proofs.lemmas.Int.{ints}
 use Rattle.field_mod.specs.Modular.{Same}
-use Rattle.field_mod.proofs.Modular.{same_by, same_refl, same_trans, same-add, same-scale}
+use Rattle.field_mod.proofs.Modular.{same_by, same_trans}
 use Rattle.elem_cubes.specs.Cells.{Factor, point, interval, same_cell}
-use Rattle.elem_cubes.specs.Faces.{behind, changed, ends_of, faces_of}
+use Rattle.elem_cubes.specs.Faces.{behind, faces_of}
 use Rattle.elem_cubes.specs.Boundary.{residue, boundary_coefficient, boundary_pairing, signed_sum}
 use Rattle.cell_complex.specs.Boundaries.{unit_at, IsSign, HaveSigns}
 use Rattle.elem_cubes.proofs.Modular.{exact, neg_cancel, either-none}

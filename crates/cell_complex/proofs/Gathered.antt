@@ -1,10 +1,10 @@
 -- Gathering cells: one, the faces of one, the faces of many
-use Rattle.std.proofs.Common.{◌≡◌, ◌⊎◌, ℕ, zero, suc, ◌+◌, ◌<◌, ◌≤◌, inl, inr, refl, sym, ap, ◌∙◌, subst, arith, ⊎_elim, List, [], ◌∷◌, ◌++◌, length, take, get_or, map, Bool, true, false, cond, ◌&&◌, ◌||◌}
-use Rattle.std.specs.Prelude.{ℤ, pos, ◌+ℤ◌, not}
+use Rattle.std.proofs.Common.{◌≡◌, ℕ, zero, suc, ◌+◌, ◌<◌, ◌≤◌, refl, sym, ap, ◌∙◌, subst, arith, ⊎_elim, List, [], ◌∷◌, ◌++◌, length, take, get_or, map, Bool, true, false, cond, ◌&&◌, ◌||◌}
+use Rattle.std.specs.Prelude.{pos, ◌+ℤ◌, not}
 use Rattle.std.specs.List.{list_any, flat_map, IsDistinct}
 use Rattle.std.specs.Ordering.{int_eq}
-use Rattle.std.proofs.lemmas.Bool.{true≢false, cases_Bool, and_parts, and_from, both_ways}
-use Rattle.std.proofs.lemmas.List.{take_more, get_or_default}
+use Rattle.std.proofs.lemmas.Bool.{true≢false, cases_Bool, and_parts, and_from}
+use Rattle.std.proofs.lemmas.List.{take_more}
 use Rattle.std.proofs.lemmas.List.Folds.{list_any-append}
 use Rattle.indexmap.specs.IndexSet.{insert_key}
 use Rattle.elem_cubes.specs.Cells.{Factor, point, interval, same_factor, same_cell}

@@ -1,11 +1,10 @@
 -- Two complexes whose generators match, with equal degrees and equal boundaries: their chains, cycles, null chains and bases
 -- match too
-use Rattle.std.proofs.Common.{◌≡◌, ◌≢◌, ℕ, ◌+◌, ◌*◌, ◌<◌, refl, sym, ap, ◌∙◌, subst, ⊎_elim, Bool, true, false, cond}
-use Rattle.std.proofs.lemmas.Bool.{true≢false, cases_Bool}
-use Rattle.field_mod.specs.Sums.{total}
+use Rattle.std.proofs.Common.{◌≡◌, ℕ, ◌+◌, ◌*◌, ◌<◌, sym, ap, ◌∙◌, ⊎_elim, true, false, cond}
+use Rattle.std.proofs.lemmas.Bool.{cases_Bool}
 use Rattle.field_mod.specs.Modular.{Same}
 use Rattle.field_mod.proofs.Sums.{total_same}
-use Rattle.field_mod.proofs.Modular.{same_refl, same_sym, same_trans, same-add, same-scale}
+use Rattle.field_mod.proofs.Modular.{same_sym, same_trans, same-add, same-scale}
 use Rattle.chains.specs.Homology.{System, IsChain, IsCycle, IsNull, IsSpanned, IsBasis, combination}
 use Rattle.elem_cubes.proofs.Modular.{exact}
 

@@ -1,18 +1,16 @@
 -- The numbered relative complex: it is a chain complex, and its generators match the cells
-use Rattle.std.proofs.Common.{◌≡◌, ◌≢◌, ◌⊎◌, inl, inr, ℕ, zero, suc, ◌+◌, ◌-◌, ◌*◌, ◌%◌, ◌^◌, ◌<◌, ◌≤◌, refl, sym, ap, ◌∙◌, subst, arith, ⊎_elim, List, [], ◌∷◌, length, map, get_or, Bool, true, false, cond, not, ltb}
-use Rattle.std.specs.List.{Contains, position_or_len}
-use Rattle.std.proofs.lemmas.Bool.{true≢false, cases_Bool, cases_lt, cases_eq, ltb-true, ltb-false, lt-ltb, le-ltb}
+use Rattle.std.proofs.Common.{◌≡◌, ◌≢◌, ℕ, ◌+◌, ◌*◌, ◌%◌, ◌^◌, ◌<◌, ◌≤◌, refl, sym, ap, ◌∙◌, subst, arith, ⊎_elim, List, [], ◌∷◌, length, map, get_or, Bool, true, cond}
+use Rattle.std.proofs.lemmas.Bool.{cases_Bool, cases_lt}
 use Rattle.std.proofs.lemmas.List.{get_or-map, length-map, get_or_past, get_or_default}
 use Rattle.std.proofs.lemmas.List.Elements.{Contains-get_or}
-use Rattle.std.proofs.lemmas.List.Sums.{position_or_len_is, passes_at_first}
+use Rattle.std.proofs.lemmas.List.Sums.{position_or_len_is}
 use native.Mathlib.Nat.{zero-mod}
 use Rattle.std.proofs.Math.Nat.{mod-eq_of_lt}
 use Rattle.field_mod.specs.Sums.{total}
 use Rattle.field_mod.specs.Modular.{Same}
 use Rattle.field_mod.proofs.Sums.{total_same}
-use Rattle.field_mod.proofs.Modular.{same_refl, same_sym, same_trans, same-mul}
+use Rattle.field_mod.proofs.Modular.{same_sym, same_trans, same-mul}
 use Rattle.elem_cubes.specs.Cells.{Factor, dimension_of, same_cell}
-use Rattle.elem_cubes.specs.Faces.{IsFace, IsFacet}
 use Rattle.elem_cubes.specs.Boundary.{boundary_at, boundary_coefficient}
 use Rattle.elem_cubes.specs.Laws.{cell_at}
 use Rattle.chains.specs.Terms.{coefficient, IsNormal}
@@ -20,8 +18,8 @@ use Rattle.chains.specs.Refusal.{IsRefusal}
 use Rattle.chains.specs.declared.complex.ComplexFault.{ComplexFault}
 use Rattle.chains.specs.declared.complex.ComplexFault.TheVariants.{BadDegree, NotZero, NoMemory}
 use Rattle.chains.proofs.TermLists.{coefficient-lt}
-use Rattle.chains.specs.ChainComplex.{ChainComplex, IsComplex, IsBadDegree, incidence, boundary, system}
-use Rattle.cell_complex.specs.RelativeComplex.{is_relative, restriction_to, complex_on, relative_complex}
+use Rattle.chains.specs.ChainComplex.{ChainComplex, IsComplex, IsBadDegree, incidence, boundary}
+use Rattle.cell_complex.specs.RelativeComplex.{is_relative, restriction_to}
 use Rattle.cell_complex.specs.Numbering.{IsListing, IsOfPair, IsComplexOf, IsRelativeComplex, number_of}
 use Rattle.cell_complex.specs.Boundaries.{unit_at, AreBoundaries}
 use Rattle.cell_complex.specs.Laws.{NumberedCellsAreComplex}
@@ -32,7 +30,6 @@ use Rattle.elem_cubes.proofs.Zeros.{face_or_zero}
 use Rattle.cell_complex.proofs.Deciding.{same_cell_sym}
 use Rattle.cell_complex.proofs.Cofaces.{boundary_same}
 use Rattle.cell_complex.proofs.Squares.{restriction-on, restriction-off, relative_complexes_are_complexes}
-use Rattle.cell_complex.proofs.Matching.{Matching}
 
 -- ---- places in a listing
 

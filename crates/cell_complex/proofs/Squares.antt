@@ -1,5 +1,5 @@
 -- The relative complex is a complex: the boundary of each boundary is 0, and the boundary is linear and lowers the degree
-use Rattle.std.proofs.Common.{◌≡◌, ◌≢◌, ℕ, zero, suc, ◌+◌, ◌*◌, ◌<◌, ◌≤◌, refl, sym, ap, ◌∙◌, arith, ⊎_elim, List, Bool, true, false, cond, ◌&&◌}
+use Rattle.std.proofs.Common.{◌≡◌, ℕ, ◌+◌, ◌*◌, ◌≤◌, refl, sym, ap, ◌∙◌, ⊎_elim, List, Bool, true, false, cond, ◌&&◌}
 use Rattle.std.specs.Prelude.{not}
 use Rattle.std.proofs.lemmas.Bool.{true≢false, cases_Bool, and_parts, and_left, not-true, both_ways}
 use native.Mathlib.Nat.{mul-zero}
@@ -11,7 +11,7 @@ use Rattle.elem_cubes.specs.Cells.{Factor, dimension_of}
 use Rattle.elem_cubes.specs.Faces.{IsFace, IsFacet}
 use Rattle.elem_cubes.specs.Boundary.{boundary_at}
 use Rattle.chains.specs.Homology.{IsBoundaryOperator, combination}
-use Rattle.cell_complex.specs.RelativeComplex.{is_cell_of, is_relative, restriction_to, complex_on, relative_complex, IsClosed, SquaresToZero}
+use Rattle.cell_complex.specs.RelativeComplex.{is_cell_of, is_relative, restriction_to, complex_on, IsClosed, SquaresToZero}
 use Rattle.cell_complex.specs.Laws.{DifferencesAreComplexes, RelativeComplexesAreComplexes}
 use Rattle.cell_complex.proofs.Deciding.{closed}
 use Rattle.elem_cubes.proofs.Modular.{exact}

@@ -1,5 +1,5 @@
 -- Cells gathered one after another, each once: the cells of a set, and how many there are.
-use Rattle.std.specs.Prelude.{◌≡◌, ℕ, ◌<◌, ◌≤◌, Bool, true, not, ◌&&◌, ◌||◌, List, [], length}
+use Rattle.std.specs.Prelude.{◌≡◌, ℕ, ◌<◌, ◌≤◌, Bool, true, not, ◌&&◌, ◌||◌, List, length}
 use Rattle.std.specs.List.{list_any, list_all, flat_map, IsDistinct}
 use Rattle.std.specs.Set.{distinct_count}
 use Rattle.elem_cubes.specs.Cells.{Factor, same_cell, is_file_factor}

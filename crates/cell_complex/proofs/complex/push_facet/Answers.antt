@@ -1,4 +1,4 @@
-use Rattle.std.proofs.Common.{◌≡◌, ◌∙◌, ap, refl, arith, []}
+use Rattle.std.proofs.Common.{◌≡◌, refl, arith, []}
 use Rattle.std.specs.Prelude.{pos}
 use Rattle.std.specs.Int.{int_rem_euclid}
 use Rattle.std.proofs.lemmas.Bool.{false≢true}

@@ -1,4 +1,4 @@
-use Rattle.std.proofs.Common.{◌≡◌, sym, ap, ◌∙◌, Err}
+use Rattle.std.proofs.Common.{◌≡◌, Err}
 use Rattle.std.proofs.lemmas.Result.{err_from_is_err_and}
 use Rattle.cell_complex.specs.declared.fault.CellsFault.TheVariants.{TooManyCells}
 use Rattle.cell_complex.proofs.Gathered.{one_more, too_many_faces}

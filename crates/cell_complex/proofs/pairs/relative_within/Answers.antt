@@ -1,9 +1,9 @@
-use Rattle.std.proofs.Common.{◌≡◌, ◌<◌, ◌-◌, sym, ap, ◌∙◌, subst, Err, arith, List, ◌++◌, []}
+use Rattle.std.proofs.Common.{◌≡◌, ◌-◌, subst, Err, arith, List, []}
 use Rattle.std.proofs.lemmas.Result.{err_from_is_err_and}
 use Rattle.elem_cubes.specs.Cells.{Factor}
 use Rattle.cell_complex.specs.declared.fault.CellsFault.TheVariants.{TooManyCells}
 use Rattle.cell_complex.specs.RelativeComplex.{is_relative}
-use Rattle.cell_complex.specs.Gathering.{cell_count, has_cell, faces_without, Gathers, GathersTooMany}
+use Rattle.cell_complex.specs.Gathering.{has_cell, faces_without, Gathers, GathersTooMany}
 use Rattle.cell_complex.proofs.Counting.{relative_cells, relative_alike, pair_count, subset_too_many, pair_too_many, listing_of}
 use Rattle.cell_complex.proofs.pairs.relative_within.Goals as goal
 

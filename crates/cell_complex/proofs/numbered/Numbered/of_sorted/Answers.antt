@@ -1,4 +1,4 @@
-use Rattle.std.proofs.Common.{◌≡◌, ◌∙◌, sym, subst, take, arith, List}
+use Rattle.std.proofs.Common.{◌≡◌, ◌∙◌, sym, subst, List}
 use Rattle.std.proofs.lemmas.List.{take_all}
 use Rattle.elem_cubes.specs.Cells.{Factor}
 use Rattle.cell_complex.specs.Sorted.{IsSortedCells}
