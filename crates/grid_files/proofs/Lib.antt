@@ -8,3 +8,5 @@ pub mod Scanning
 pub mod SetLemmas
 pub mod Corners
 pub mod Openings
+pub mod WholeCubes
+pub mod Gathering

@@ -8,3 +8,4 @@ pub mod Scanning
 pub mod Reading
 pub mod Corners
 pub mod Openings
+pub mod Readers

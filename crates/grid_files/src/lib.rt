@@ -1,14 +1,17 @@
 //! Sets of cells: set files, read and written, and the algebra of sets.
 #![tactic(auto)]
 
+mod cells;
 mod corner;
 mod cube_set;
 mod fault;
+mod gathered;
 mod laws;
 mod opening;
 mod piece;
 mod scanner;
 mod sorted;
+mod whole_cube;
 
 pub use cube_set::{CubeSet, are_members};
 pub use fault::{CUBES, Kind, TextCause, TextFault};
