@@ -10,3 +10,6 @@ pub mod Corners
 pub mod Openings
 pub mod WholeCubes
 pub mod Gathering
+pub mod Readings
+pub mod Finishing
+pub mod SetFiles

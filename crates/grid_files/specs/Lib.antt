@@ -9,3 +9,5 @@ pub mod Reading
 pub mod Corners
 pub mod Openings
 pub mod Readers
+pub mod Readings
+pub mod Faults

@@ -32,4 +32,3 @@ abbrev pub Joins : Option TextCause → Members → Gathered → Result (Unit {0
 Joins why set now (Ok _) = (why ≡ None) × IsGathered now set
 Joins why set now (Err (refusals.Cause cause)) = why ≡ Some cause
 Joins why set now (Err refusals.NoMemory) = Unit {0}
-

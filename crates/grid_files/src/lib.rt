@@ -9,12 +9,15 @@ mod gathered;
 mod laws;
 mod opening;
 mod piece;
+mod reader;
 mod scanner;
+mod set_file;
 mod sorted;
 mod whole_cube;
 
 pub use cube_set::{CubeSet, are_members};
 pub use fault::{CUBES, Kind, TextCause, TextFault};
+pub use set_file::read_set;
 pub use laws::texts_have_one_outcome;
 
 #[cfg(test)]
