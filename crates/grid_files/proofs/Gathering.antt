@@ -117,8 +117,8 @@ joined_set set q is h some few agree n = record {
   axes = few;
   unknown = λ e. absurd (omega arith);
   alike = all-inserted cell_cmp (is_member (length q)) q set.cells (member_self q h) (⊎_elim
-    (λ e. ap (list_all (is_member (length q))) (is.unknown e))
-    (λ e. ap (λ n. list_all (is_member n) set.cells) (sym e) ∙ is.alike) agree);
+      (λ e. ap (list_all (is_member (length q))) (is.unknown e))
+      (λ e. ap (λ n. list_all (is_member n) set.cells) (sym e) ∙ is.alike) agree);
   sorted = sorted-inserted cell_cmp cell_cmp_total q set.cells is.sorted;
   few = omega arith;
 }
@@ -130,15 +130,16 @@ cell_joins kind set old new q g h some few agree wanted cells dimension n =
     let a : (set.dimension ≡ 0) ⊎ (set.dimension ≡ length q) = ⊎_elim (λ e. inl (sym g.dimension ∙ e)) (λ e. inr (sym g.dimension ∙ e)) agree in
     let m : length new.cells ≡ length (inserted cell_cmp q set.cells) = ap length cells ∙ joined_count q old.cells set.cells (list_any (same_cell q) old.cells) refl g.members g.count g.is_set.sorted in
     let fewer : length (inserted cell_cmp q set.cells) ≤ CUBES = omega arith in
-    let test : nat_lt CUBES (length (inserted cell_cmp q set.cells)) ≡ false = grind (arith, nat_tests) in
-    (rw (agreeing set.dimension (length q) a, wanted, test) refl,
-    record {
-      dimension = dimension;
-      members = λ c. ap (λ l. has cell_cmp l c) cells ∙ joined_members q old.cells set.cells (list_any (same_cell q) old.cells) c refl g.members;
-      count = m;
-      is_set = joined_set set q g.is_set h some few a fewer;
-      few = fewer;
-    })
+    let test : nat_lt CUBES (length (inserted cell_cmp q set.cells)) ≡ false = grind (arith, nat_tests) in (
+      rw (agreeing set.dimension (length q) a, wanted, test) refl,
+      record {
+        dimension = dimension;
+        members = λ c. ap (λ l. has cell_cmp l c) cells ∙ joined_members q old.cells set.cells (list_any (same_cell q) old.cells) c refl g.members;
+        count = m;
+        is_set = joined_set set q g.is_set h some few a fewer;
+        few = fewer;
+      },
+    )
 
 pub cell_too_many : (kind : Kind) (set : Members) (old : Gathered) (q : List Factor) (cells : List (List Factor)) → IsGathered old set
     → (old.dimension ≡ 0) ⊎ (old.dimension ≡ length q) → is_wanted kind q ≡ true → cells ≡ with_key q old.cells → CUBES < length cells → cell_cause kind set q ≡ Some TooMany

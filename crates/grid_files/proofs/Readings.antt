@@ -63,8 +63,8 @@ closed_ok set o old now at piece i reads e joins kept opening start = record {
   reads = record { gathered = joins.1; opening = subst (λ (x : Opening). IsOpening x nothing) (sym opening) tt; fitting = refl };
   kept = kept;
   leads = λ rest. read_closes old.gathered.kind set o i old.start (at, piece) rest e
-    ∙ ap (λ c. judged c (λ c. Err (closing_place i (start_of o old.start at) at, c)) (read old.gathered.kind (with_item set i) nothing 0 rest)) joins.0
-    ∙ ap (λ n. read old.gathered.kind (with_item set i) nothing n rest) (sym start);
+      ∙ ap (λ c. judged c (λ c. Err (closing_place i (start_of o old.start at) at, c)) (read old.gathered.kind (with_item set i) nothing 0 rest)) joins.0
+      ∙ ap (λ n. read old.gathered.kind (with_item set i) nothing n rest) (sym start);
 }
 
 pub piece_closes : (set : Members) (o : Open) (old now : Reader) (at : ℕ) (piece : Piece) (closing : Closing) → Reads old set o → StepsAs (Closes closing) (step o piece)

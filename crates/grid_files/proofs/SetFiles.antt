@@ -58,10 +58,10 @@ fed_on kind bytes old now carry next place r lt f is = record {
   kept = f.kept ∙ r.kept;
   is_carry = is;
   same = ap (λ k. read k f.set' f.o' now.start (left next (place + 1) (drop (place + 1) bytes))) (sym r.kept)
-    ∙ sym (f.leads (drop (place + 1) bytes))
-    ∙ ap (λ k. read k r.set r.o old.start (left carry place (get_or bytes place 0 ∷ drop (place + 1) bytes))) r.kept
-    ∙ ap (λ l. read kind r.set r.o old.start (left carry place l)) (sym (drop_more bytes place 0 lt))
-    ∙ r.same;
+      ∙ sym (f.leads (drop (place + 1) bytes))
+      ∙ ap (λ k. read k r.set r.o old.start (left carry place (get_or bytes place 0 ∷ drop (place + 1) bytes))) r.kept
+      ∙ ap (λ l. read kind r.set r.o old.start (left carry place l)) (sym (drop_more bytes place 0 lt))
+      ∙ r.same;
 }
 
 pub fed_fault : (kind : Kind) (bytes : List ℕ) (old now : Reader) (carry : Carry) (place : ℕ) (fault : TextFault) (r : IsReading kind bytes old carry place) → place < length bytes

@@ -17,8 +17,10 @@ mod whole_cube;
 
 pub use cube_set::{CubeSet, are_members};
 pub use fault::{CUBES, Kind, TextCause, TextFault};
-pub use set_file::read_set;
 pub use laws::texts_have_one_outcome;
+pub use set_file::read_set;
 
+#[cfg(test)]
+mod read_tests;
 #[cfg(test)]
 mod tests;

@@ -7,8 +7,9 @@ use Rattle.grid_files.proofs.whole_cube.cube_between.Goals.{then-lower-gt-MAX_EM
 pub returns-then-lower-gt-MAX_EMBEDDING-clause-cell : goal.returns-then-lower-gt-MAX_EMBEDDING-clause-cell
 returns-then-lower-gt-MAX_EMBEDDING-clause-cell c = λ ls us il iu hl hu kind set.
     let long : MAX_EMBEDDING < max (length ls) (length us) = elim c.then-lower-gt-MAX_EMBEDDING.branch [
-    then-lower-gt-MAX_EMBEDDING-via-then-lower-gt-MAX_EMBEDDING w ↦ let l = long_corner c.args.lower.now ls il w.if-lower-gt-MAX_EMBEDDING.true in omega arith
-    | then-lower-gt-MAX_EMBEDDING-via-else-lower-gt-MAX_EMBEDDING+then-upper-gt-MAX_EMBEDDING w ↦ let l = long_corner c.args.upper.now us iu w.if-upper-gt-MAX_EMBEDDING.true in omega arith ] in
+      | then-lower-gt-MAX_EMBEDDING-via-then-lower-gt-MAX_EMBEDDING w ↦ let l = long_corner c.args.lower.now ls il w.if-lower-gt-MAX_EMBEDDING.true in omega arith
+      | then-lower-gt-MAX_EMBEDDING-via-else-lower-gt-MAX_EMBEDDING+then-upper-gt-MAX_EMBEDDING w ↦ let l = long_corner c.args.upper.now us iu w.if-upper-gt-MAX_EMBEDDING.true in omega arith
+    ] in
     too_large kind set (max (length ls) (length us)) _ long
 
 pub returns-then-lower-upper-clause-cell : goal.returns-then-lower-upper-clause-cell

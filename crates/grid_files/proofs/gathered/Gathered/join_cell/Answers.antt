@@ -8,8 +8,9 @@ use Rattle.grid_files.proofs.gathered.Gathered.join_cell.Goals.{else-self-ne0-vi
 pub returns-then-len-clause-joins : goal.returns-then-len-clause-joins
 returns-then-len-clause-joins c = λ set g.
     let agree : (c.args.self.now.dimension ≡ 0) ⊎ (c.args.self.now.dimension ≡ length c.args.cell) = elim c.else-self-ne0.branch [
-    else-self-ne0-via-then-self-ne0+else-self-dimension w ↦ inr (w.if-self-dimension.false ∙ c.embedding-dimension.ensures.embedding)
-    | else-self-ne0-via-else-self-ne0 w ↦ inl w.if-self-ne0.false ] in
+      | else-self-ne0-via-then-self-ne0+else-self-dimension w ↦ inr (w.if-self-dimension.false ∙ c.embedding-dimension.ensures.embedding)
+      | else-self-ne0-via-else-self-ne0 w ↦ inl w.if-self-ne0.false
+    ] in
     let cells : c.insert.new.self ≡ with_key c.args.cell c.args.self.now.cells = on_ok c.insert.result _ c.insert.ensures (sym c.if-is_err.ensures.value) in
     let many : CUBES < length c.insert.new.self = omega arith in
     cell_too_many c.args.self.now.kind set c.args.self.now c.args.cell c.insert.new.self g agree (sym c.is_wanted.ensures ∙ c.if-not-is_wanted.false) cells many
@@ -17,8 +18,9 @@ returns-then-len-clause-joins c = λ set g.
 pub returns-clause-joins : goal.returns-clause-joins
 returns-clause-joins c = λ set g.
     let agree : (c.args.self.now.dimension ≡ 0) ⊎ (c.args.self.now.dimension ≡ length c.args.cell) = elim c.else-self-ne0.branch [
-    else-self-ne0-via-then-self-ne0+else-self-dimension w ↦ inr (w.if-self-dimension.false ∙ c.embedding-dimension.ensures.embedding)
-    | else-self-ne0-via-else-self-ne0 w ↦ inl w.if-self-ne0.false ] in
+      | else-self-ne0-via-then-self-ne0+else-self-dimension w ↦ inr (w.if-self-dimension.false ∙ c.embedding-dimension.ensures.embedding)
+      | else-self-ne0-via-else-self-ne0 w ↦ inl w.if-self-ne0.false
+    ] in
     let cells : c.insert.new.self ≡ with_key c.args.cell c.args.self.now.cells = on_ok c.insert.result _ c.insert.ensures (sym c.if-is_err.ensures.value) in
     let some : 1 ≤ length c.args.cell = omega arith in
     let few : length c.args.cell ≤ MAX_EMBEDDING = omega arith in
