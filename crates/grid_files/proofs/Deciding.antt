@@ -35,14 +35,14 @@ none_said (q ∷ qs) e = cc
 
 -- ---- single steps
 
-read_goes : (kind : Kind) (set : Members) (o o' : Open) (start : ℕ) (p : ℕ × Piece) (ps : List (ℕ × Piece)) → step o p.1 ≡ goes o'
+pub read_goes : (kind : Kind) (set : Members) (o o' : Open) (start : ℕ) (p : ℕ × Piece) (ps : List (ℕ × Piece)) → step o p.1 ≡ goes o'
     → read kind set o start (p ∷ ps) ≡ read kind set o' (start_of o start p.0) ps
 read_goes kind set o o' start p ps e = ap (λ s. next s
     (λ o'. read kind set o' (start_of o start p.0) ps)
     (λ i. judged (cause_of kind set i) (λ c. Err (closing_place i (start_of o start p.0) p.0, c)) (read kind (with_item set i) nothing 0 ps))
     (λ c. Err (p.0, c))) e
 
-read_closes : (kind : Kind) (set : Members) (o : Open) (i : Item) (start : ℕ) (p : ℕ × Piece) (ps : List (ℕ × Piece)) → step o p.1 ≡ closes i
+pub read_closes : (kind : Kind) (set : Members) (o : Open) (i : Item) (start : ℕ) (p : ℕ × Piece) (ps : List (ℕ × Piece)) → step o p.1 ≡ closes i
     → read kind set o start (p ∷ ps)
     ≡ judged (cause_of kind set i) (λ c. Err (closing_place i (start_of o start p.0) p.0, c)) (read kind (with_item set i) nothing 0 ps)
 read_closes kind set o i start p ps e = ap (λ s. next s
@@ -50,7 +50,7 @@ read_closes kind set o i start p ps e = ap (λ s. next s
     (λ i. judged (cause_of kind set i) (λ c. Err (closing_place i (start_of o start p.0) p.0, c)) (read kind (with_item set i) nothing 0 ps))
     (λ c. Err (p.0, c))) e
 
-read_stops : (kind : Kind) (set : Members) (o : Open) (start : ℕ) (p : ℕ × Piece) (ps : List (ℕ × Piece)) (c : TextCause) → step o p.1 ≡ stops c
+pub read_stops : (kind : Kind) (set : Members) (o : Open) (start : ℕ) (p : ℕ × Piece) (ps : List (ℕ × Piece)) (c : TextCause) → step o p.1 ≡ stops c
     → read kind set o start (p ∷ ps) ≡ Err (p.0, c)
 read_stops kind set o start p ps c e = ap (λ s. next s
     (λ o'. read kind set o' (start_of o start p.0) ps)

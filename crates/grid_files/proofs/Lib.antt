@@ -8,3 +8,8 @@ pub mod Scanning
 pub mod SetLemmas
 pub mod Corners
 pub mod Openings
+pub mod WholeCubes
+pub mod Gathering
+pub mod Readings
+pub mod Finishing
+pub mod SetFiles

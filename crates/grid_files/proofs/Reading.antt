@@ -82,7 +82,7 @@ agrees behind_word NoNumber = refl
 agrees behind_word Stray = refl
 
 -- a piece goes on with an item, closes it, or has no reading
-abbrev Says : Open → Piece → Step → Type 0
+abbrev pub Says : Open → Piece → Step → Type 0
 Says o p (goes o') = (beginning o' ≡ beginning o ++ p ∷ []) × (fits_open o' ≡ true)
 Says o p (closes i) = (spelling i ≡ beginning o ++ p ∷ []) × (fits i ≡ true)
 Says o p (stops c) = refused o p ≡ Some c
@@ -143,7 +143,7 @@ outer_says b true two h k = (ap (λ n. Mark n ∷ []) (sym (mark_is b 40 h)), re
 outer_says b false true h k = (ap (λ n. Mark n ∷ []) (sym (mark_is b 91 k)), refl)
 outer_says b false false h k = rw (h, k) refl
 
-says : (o : Open) (p : Piece) → fits_open o ≡ true → Says o p (step o p)
+pub says : (o : Open) (p : Piece) → fits_open o ≡ true → Says o p (step o p)
 says nothing (Number z) h = refl
 says nothing Wide h = refl
 says nothing (Mark b) h = outer_says b (b == 40) (b == 91) refl refl

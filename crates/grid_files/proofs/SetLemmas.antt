@@ -51,7 +51,7 @@ length-filtered q (x ∷ xs) =
     cond_both (q x) (x ∷ filter q xs) (filter q xs) (λ ys. length ys ≤ suc (length xs)) (λ _. omega arith) (λ _. omega arith)
 
 -- a list has equal values alike
-has_alike : {K : Type 0} (cmp : K → K → Ordering) (o : IsTotalOrder cmp) (x c : K) (ys : List K) → cmp x c ≡ Equal → has cmp ys x ≡ has cmp ys c
+pub has_alike : {K : Type 0} (cmp : K → K → Ordering) (o : IsTotalOrder cmp) (x c : K) (ys : List K) → cmp x c ≡ Equal → has cmp ys x ≡ has cmp ys c
 has_alike cmp o x c [] e = refl
 has_alike cmp o x c (y ∷ ys) e =
     let f : is_eq (cmp y x) ≡ is_eq (cmp y c) = ap is_eq (alike_right o x c y e) in rw (f, has_alike cmp o x c ys e) refl

@@ -96,7 +96,7 @@ module _ {K : Type 0} (cmp : K → K → Ordering) (o : IsTotalOrder cmp) where
       ends
 
   -- a value that is not in the second list, and one that is
-  absent : (x : K) (ys : List K) → IsBelow cmp x ys → has cmp ys x ≡ false
+  pub absent : (x : K) (ys : List K) → IsBelow cmp x ys → has cmp ys x ≡ false
   absent x [] h = refl
   absent x (y ∷ ys) h = rw (above' cmp o x y h.0, absent x ys h.1) refl
 

@@ -8,3 +8,6 @@ pub mod Scanning
 pub mod Reading
 pub mod Corners
 pub mod Openings
+pub mod Readers
+pub mod Readings
+pub mod Faults

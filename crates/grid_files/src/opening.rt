@@ -2,6 +2,7 @@
 ghost use Rattle.std.specs.Prelude.{◌≡◌, ℤ, List};
 ghost use Rattle.grid_files.specs.Reading.{Step, step, for_mark};
 ghost use Rattle.grid_files.specs.Items.{Open, nothing, behind_word};
+ghost use Rattle.grid_files.specs.SetFile.{is_open};
 ghost use Rattle.grid_files.specs.Openings.{IsOpening, StepsAs};
 
 use crate::corner::{CornerStep, OpenCorner, in_corner};
@@ -19,6 +20,24 @@ pub(crate) enum Opening {
     InUpper(OpenCorner, OpenCorner),
     BeforeEnd(OpenCorner, OpenCorner),
     BehindWord,
+}
+
+impl Opening {
+    /// Whether an item stands open.
+    pub(crate) fn is_open(&self) -> bool
+        ensures { (o : Open) → IsOpening self.now o → result ≡ is_open o }
+    {
+        match self {
+            Opening::Nothing => false,
+            Opening::InFull(_)
+            | Opening::BeforeLower
+            | Opening::InLower(_)
+            | Opening::BeforeUpper(_)
+            | Opening::InUpper(_, _)
+            | Opening::BeforeEnd(_, _)
+            | Opening::BehindWord => true,
+        }
+    }
 }
 
 /// A whole item.

@@ -97,6 +97,7 @@ fn number_piece(negative: bool, value: u64) -> Piece
 fn on_line(b: u8) -> Carry
     ensures pieces { (place : ℕ) (bs : List ℕ) → behind_line place (b ∷ bs) ≡ left result (place + 1) bs }
     ensures carry { IsCarry result }
+    ensures line { b ≡ 10 → result ≡ Between }
 {
     if b == b'\n' {
         Carry::Between
@@ -109,6 +110,7 @@ fn on_line(b: u8) -> Carry
 fn begin(place: u64, b: u8) -> (Carry, Option<Placed>)
     ensures pieces { (bs : List ℕ) → pieces_behind 0 place (b ∷ bs) ≡ listed result.1 (left result.0 (place + 1) bs) }
     ensures carry { IsCarry result.0 }
+    ensures line { b ≡ 10 → result.0 ≡ Between }
 {
     if is_blank(b) {
         return (Carry::Between, None);
@@ -147,6 +149,7 @@ fn letter(at: u64, matched: usize, b: u8) -> (Carry, Option<Placed>)
     requires letter { is_ascii_alphabetic b ≡ true }
     ensures pieces { (place : ℕ) (bs : List ℕ) → left (Word at matched) place (b ∷ bs) ≡ listed result.1 (left result.0 (place + 1) bs) }
     ensures carry { IsCarry result.0 }
+    ensures line { b ≡ 10 → result.0 ≡ Between }
 {
     if matched < DIMENSION.len() && DIMENSION[matched] == b {
         return (
@@ -164,6 +167,7 @@ fn letter(at: u64, matched: usize, b: u8) -> (Carry, Option<Placed>)
 fn begin_number(place: u64, b: u8) -> (Carry, Option<Placed>)
     ensures pieces { (bs : List ℕ) → left Behind place (b ∷ bs) ≡ listed result.1 (left result.0 (place + 1) bs) }
     ensures carry { IsCarry result.0 }
+    ensures line { b ≡ 10 → result.0 ≡ Between }
 {
     if b == b'\n' {
         return (Carry::Between, Some((place, Piece::NoNumber)));
@@ -192,6 +196,7 @@ fn begin_number(place: u64, b: u8) -> (Carry, Option<Placed>)
 fn after_number(place: u64, b: u8) -> (Carry, Option<Placed>)
     ensures pieces { (bs : List ℕ) → left AfterNumber place (b ∷ bs) ≡ listed result.1 (left result.0 (place + 1) bs) }
     ensures carry { IsCarry result.0 }
+    ensures line { b ≡ 10 → result.0 ≡ Between }
 {
     if b == b'\n' {
         return (Carry::Between, None);
@@ -206,6 +211,7 @@ fn after_number(place: u64, b: u8) -> (Carry, Option<Placed>)
 }
 
 /// What one byte tells: at most two pieces, and the new carry.
+#[derive(Clone, Copy)]
 pub(crate) struct Scanned {
     pub(crate) carry: Carry,
     pub(crate) first: Option<Placed>,
@@ -227,6 +233,7 @@ fn then(first: Placed, next: (Carry, Option<Placed>)) -> Scanned
 fn after_dash(at: u64, place: u64, b: u8) -> Scanned
     ensures pieces { Scans (Dash at) place b result.carry result.first result.second }
     ensures carry { IsCarry result.carry }
+    ensures line { b ≡ 10 → result.carry ≡ Between }
 {
     if b.is_ascii_digit() {
         let value = u64::from(b - b'0');
@@ -258,6 +265,7 @@ fn in_digits(at: u64, negative: bool, value: u64, place: u64, b: u8) -> Scanned
     requires { value ≤ CAP }
     ensures pieces { Scans (Digits at negative value) place b result.carry result.first result.second }
     ensures carry { IsCarry result.carry }
+    ensures line { b ≡ 10 → result.carry ≡ Between }
 {
     if b.is_ascii_digit() {
         let value = with_digit(value, b);
@@ -275,6 +283,7 @@ fn in_word(at: u64, matched: usize, place: u64, b: u8) -> Scanned
     requires { matched ≤ 9 }
     ensures pieces { Scans (Word at matched) place b result.carry result.first result.second }
     ensures carry { IsCarry result.carry }
+    ensures line { b ≡ 10 → result.carry ≡ Between }
 {
     if b.is_ascii_alphabetic() {
         let (carry, first) = letter(at, matched, b);
@@ -294,6 +303,7 @@ fn in_word(at: u64, matched: usize, place: u64, b: u8) -> Scanned
 fn after_number_dash(at: u64, place: u64, b: u8) -> Scanned
     ensures pieces { Scans (BehindDash at) place b result.carry result.first result.second }
     ensures carry { IsCarry result.carry }
+    ensures line { b ≡ 10 → result.carry ≡ Between }
 {
     if b.is_ascii_digit() {
         let value = u64::from(b - b'0');
@@ -311,6 +321,7 @@ fn in_number(at: u64, negative: bool, value: u64, place: u64, b: u8) -> Scanned
     requires { value ≤ CAP }
     ensures pieces { Scans (BehindDigits at negative value) place b result.carry result.first result.second }
     ensures carry { IsCarry result.carry }
+    ensures line { b ≡ 10 → result.carry ≡ Between }
 {
     if b.is_ascii_digit() {
         let value = with_digit(value, b);
@@ -341,6 +352,7 @@ pub(crate) fn scan(carry: Carry, place: u64, b: u8) -> Scanned
     requires { IsCarry carry }
     ensures pieces { Scans carry place b result.carry result.first result.second }
     ensures carry { IsCarry result.carry }
+    ensures line { b ≡ 10 → result.carry ≡ Between }
 {
     match carry {
         Carry::Between => telling(begin(place, b)),
