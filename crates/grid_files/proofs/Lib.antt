@@ -13,3 +13,4 @@ pub mod Gathering
 pub mod Readings
 pub mod Finishing
 pub mod SetFiles
+pub mod Writing

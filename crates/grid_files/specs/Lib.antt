@@ -11,3 +11,4 @@ pub mod Openings
 pub mod Readers
 pub mod Readings
 pub mod Faults
+pub mod Written

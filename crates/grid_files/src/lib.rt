@@ -14,13 +14,17 @@ mod scanner;
 mod set_file;
 mod sorted;
 mod whole_cube;
+mod write;
 
 pub use cube_set::{CubeSet, are_members};
 pub use fault::{CUBES, Kind, TextCause, TextFault};
 pub use laws::texts_have_one_outcome;
 pub use set_file::read_set;
+pub use write::write_set;
 
 #[cfg(test)]
 mod read_tests;
 #[cfg(test)]
 mod tests;
+#[cfg(test)]
+mod write_tests;
