@@ -1,6 +1,7 @@
 //! The words of the command line.
-ghost use Rattle.std.specs.Prelude.{◌≡◌, ◌⊎◌};
+ghost use Rattle.std.specs.Prelude.{◌≡◌, ◌⊎◌, codes};
 ghost use Rattle.chomp.specs.Words.{is_operand};
+ghost use Rattle.chomp.specs.Saying.{IsDue};
 
 use report::{Fault, Name};
 use std::alloc::Global;
