@@ -1,0 +1,4 @@
+//! The log of reduced pairs.
+#![tactic(auto)]
+
+pub fn none() {}
