@@ -5,3 +5,7 @@ pub mod Bridge
 pub mod Linear
 pub mod Reductions
 pub mod LeftBasis
+pub mod KeptSteps
+pub mod Triangular
+pub mod Descent
+pub mod Settled
