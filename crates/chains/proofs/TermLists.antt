@@ -97,11 +97,11 @@ pub record Merging (p c : ℕ) (a b out xs ys : List (ℕ × ℕ)) : Type 0 wher
   pub right : IsNormalWithin p low (2 ^ 32) ys
   pub sums : (g : ℕ) → Same p (coefficient out g + (coefficient xs g + c * coefficient ys g)) (coefficient a g + c * coefficient b g)
 
-coefficient-push_term : (out : List (ℕ × ℕ)) (g n h : ℕ) → coefficient (push_term out g n) h ≡ coefficient out h + cond (eqb g h) n 0
+pub coefficient-push_term : (out : List (ℕ × ℕ)) (g n h : ℕ) → coefficient (push_term out g n) h ≡ coefficient out h + cond (eqb g h) n 0
 coefficient-push_term out g zero h = elim (eqb g h) as (λ v. coefficient out h ≡ coefficient out h + cond v 0 0) [ true ↦ omega arith | false ↦ omega arith ]
 coefficient-push_term out g (suc n) h = omega (arith, coefficient-append out ((g, suc n) ∷ []) h)
 
-IsNormalWithin-push_term : (p low g n : ℕ) (out : List (ℕ × ℕ)) → IsNormalWithin p 0 low out → low ≤ g → n < p → IsNormalWithin p 0 (g + 1) (push_term out g n)
+pub IsNormalWithin-push_term : (p low g n : ℕ) (out : List (ℕ × ℕ)) → IsNormalWithin p 0 low out → low ≤ g → n < p → IsNormalWithin p 0 (g + 1) (push_term out g n)
 IsNormalWithin-push_term p low g zero out h l below = widened p 0 low (g + 1) out h (omega arith)
 IsNormalWithin-push_term p low g (suc n) out h l below = IsNormalWithin_push p 0 low g (suc n) out h l (omega arith) below
 
@@ -271,3 +271,12 @@ named_at p low high (t ∷ ts) zero h l = (h.0, h.1, (omega (arith, coefficient-
 named_at p low high (t ∷ ts) (suc i) h l =
     let r = named_at p (t.0 + 1) high ts i h.3 (omega arith) in
     ((omega (arith, h.0, r.0)), r.1, (rw (ne_eqb t.0 (get_or ts i (0, 0)).0 (omega (arith, r.0))) (zero-add _ ∙ r.2)))
+
+-- a term that was read from a list ts of the terms us: its number is 1 .. p - 1, and the coefficient of its generator
+pub term_at : (p : ℕ) (ts us : List (ℕ × ℕ)) (i : ℕ) → ts ≡ us → IsNormal p us → i < length us → (0 < (get_or ts i (0, 0)).1) × ((get_or ts i (0, 0)).1 < p) × (coefficient us (get_or ts i (0, 0)).0 ≡ (get_or ts i (0, 0)).1)
+term_at p ts us i same h l =
+    let n = named_at p 0 (2 ^ 32) us i h l in
+    subst (λ (vs : List (ℕ × ℕ)). (0 < (get_or vs i (0, 0)).1) × ((get_or vs i (0, 0)).1 < p) × (coefficient us (get_or vs i (0, 0)).0 ≡ (get_or vs i (0, 0)).1)) (sym same) (n.1, number_at p 0 (2 ^ 32) us i h l, n.2)
+
+pub number_below : (p : ℕ) (ts us : List (ℕ × ℕ)) (i : ℕ) → ts ≡ us → IsNormal p us → i < length ts → (get_or ts i (0, 0)).1 < p
+number_below p ts us i same h l = number_at p 0 (2 ^ 32) ts i (rw same h) l

@@ -2,7 +2,7 @@
 ghost use Rattle.std.specs.Prelude.{◌≡◌, ℕ, ◌+◌, ◌*◌, ◌%◌, ◌<◌, ◌≤◌, List, [], length, IfOk, OnOk, OnErr, IsTrue, ◌↔◌, slice_index_or};
 ghost use Rattle.chains.specs.Terms.{coefficient, product, IsNormal};
 
-use crate::terms::{Terms, merge, sum_terms};
+use crate::terms::{Terms, dot, merge, sum_terms};
 use field_mod::Field;
 use smallvec::SmallVec;
 use std::alloc::{AllocError, Global};
@@ -48,7 +48,19 @@ impl<const P: u16> Chain<P> {
         ensures sum { IfOk result (λ c. (g : ℕ) → coefficient c g ≡ coefficient terms.now g % P) }
     {
         let mut unordered: Terms = SmallVec::from_slice(alloc, terms)?;
-        let terms = sum_terms(alloc, field, unordered.as_mut_slice())?;
+        Chain::sum(alloc, field, unordered.as_mut_slice())
+    }
+
+    /// The same, by an order of the terms in place.
+    pub(crate) fn sum(
+        alloc: Global,
+        field: Field<P>,
+        terms: &mut [(u32, u16)],
+    ) -> Result<Self, AllocError>
+        ensures normal { IfOk result (IsNormal P) }
+        ensures sum { IfOk result (λ c. (g : ℕ) → coefficient c g ≡ coefficient terms.old g % P) }
+    {
+        let terms = sum_terms(alloc, field, terms)?;
         Ok(Chain { terms })
     }
 
@@ -84,8 +96,9 @@ impl<const P: u16> Chain<P> {
         ensures value { result ≡ coefficient self.now generator }
         ensures normal { IsNormal P self.now }
     {
-        match self.terms.binary_search_by_key(&generator, |term| term.0) {
-            Ok(place) => self.terms[place].1,
+        let terms = self.terms.as_slice();
+        match terms.binary_search_by_key(&generator, |term| term.0) {
+            Ok(place) => terms[place].1,
             Err(_) => 0,
         }
     }
@@ -95,23 +108,7 @@ impl<const P: u16> Chain<P> {
         ensures below { result < P }
         ensures value { result ≡ product self.now other.now % P }
     {
-        let left = self.terms.as_slice();
-        let right = other.terms.as_slice();
-        let mut sum = 0;
-        let mut i = 0;
-        let mut j = 0;
-        'both: while i < left.len() && j < right.len() {
-            if left[i].0 < right[j].0 {
-                i += 1;
-            } else if right[j].0 < left[i].0 {
-                j += 1;
-            } else {
-                sum = field.add(sum, field.mul(left[i].1, right[j].1));
-                i += 1;
-                j += 1;
-            }
-        }
-        sum
+        dot(field, &self.terms, &other.terms)
     }
 
     /// How many terms there are.
@@ -138,7 +135,7 @@ impl<const P: u16> Chain<P> {
         ensures below { result.1 < P }
         ensures alone { coefficient self.now result.0 ≡ result.1 }
     {
-        self.terms[place]
+        self.terms()[place]
     }
 
     /// The terms by ascending generator.

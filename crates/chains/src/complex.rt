@@ -145,7 +145,7 @@ fn boundary_in<const P: u16>(
             push_scaled(field, *number, &boundaries[place], products)?;
         }
     }
-    Chain::from_terms(alloc, field, products)
+    Chain::sum(alloc, field, products.as_mut_slice())
 }
 
 // Appends the terms of `number` times a chain.

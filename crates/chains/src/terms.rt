@@ -1,7 +1,7 @@
 //! Lists of terms: the merge of two in normal form, and the sum of one in which generators stand in any order.
 ghost use Rattle.std.specs.Prelude.{◌≡◌, ℕ, ◌+◌, ◌*◌, ◌%◌, ◌<◌, ◌≤◌, length, OnOk, IfOk};
 ghost use Rattle.std.specs.List.Sorted.{IsNonDecreasingBy};
-ghost use Rattle.chains.specs.Terms.{coefficient, IsNormal, push_term};
+ghost use Rattle.chains.specs.Terms.{coefficient, product, IsNormal, push_term};
 
 use field_mod::Field;
 use smallvec::SmallVec;
@@ -60,6 +60,30 @@ pub fn merge<const P: u16>(
         j += 1;
     }
     Ok(merged)
+}
+
+/// The sum of the products of the coefficients, by a walk along both lists.
+pub fn dot<const P: u16>(field: Field<P>, left: &[(u32, u16)], right: &[(u32, u16)]) -> u16
+    requires left { IsNormal P left.now }
+    requires right { IsNormal P right.now }
+    ensures below { result < P }
+    ensures value { result ≡ product left.now right.now % P }
+{
+    let mut sum = 0;
+    let mut i = 0;
+    let mut j = 0;
+    'both: while i < left.len() && j < right.len() {
+        if left[i].0 < right[j].0 {
+            i += 1;
+        } else if right[j].0 < left[i].0 {
+            j += 1;
+        } else {
+            sum = field.add(sum, field.mul(left[i].1, right[j].1));
+            i += 1;
+            j += 1;
+        }
+    }
+    sum
 }
 
 fn sort_terms(terms: &mut [(u32, u16)])

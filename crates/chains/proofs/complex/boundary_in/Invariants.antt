@@ -1,0 +1,8 @@
+use Rattle.std.proofs.Common.{ℕ, take}
+use Rattle.field_mod.specs.Modular.{Same}
+use Rattle.chains.specs.Terms.{coefficient}
+use Rattle.chains.specs.ChainComplex.{boundary}
+use Rattle.chains.proofs.complex.boundary_in.Given as goal
+
+abbrev pub invariant-loop-generator : goal.invariant-loop-generator
+invariant-loop-generator g l = (at : ℕ) → Same g.row.P (coefficient l.products.items at) (boundary l.boundaries (coefficient (take l.generator-index l.generator-items)) at)
