@@ -8,10 +8,10 @@ use Rattle.field_mod.proofs.Modular.{same_by, same_refl, same_sym, same_trans, s
 use Rattle.chains.specs.Terms.{coefficient}
 use Rattle.algebraic_reduction.specs.Reduction.{Step, IsBoundary, IsUnpaired, left_all, project, project_all, AreSteps}
 use Rattle.algebraic_reduction.specs.Laws.{AreApart}
-use Rattle.algebraic_reduction.specs.Kept.{KeptStep, steps_of, IsKept, AreKept}
+use Rattle.algebraic_reduction.specs.Kept.{KeptStep, steps_of, IsKept, AreKept, no_step, nth, a_at, b_at, inverse_at, row_at, column_at}
 use Rattle.algebraic_reduction.proofs.Steps.{project-off_all}
 use Rattle.algebraic_reduction.proofs.LeftBasis.{decide_unpaired, off_paired}
-use Rattle.algebraic_reduction.proofs.KeptSteps.{no_step, nth, a_at, b_at, inverse_at, row_at, steps_of-append, project_all-append, kept_at, apart_at, IsNoB, no_b-append, no_b_by, no_b_at, unpaired_no_b}
+use Rattle.algebraic_reduction.proofs.KeptSteps.{steps_of-append, project_all-append, kept_at, apart_at, IsNoB, no_b-append, no_b_by, no_b_at, unpaired_no_b}
 
 pub take-steps_of : (i : ℕ) (ks : List KeptStep) → take i (steps_of ks) ≡ steps_of (take i ks)
 take-steps_of zero ks = refl

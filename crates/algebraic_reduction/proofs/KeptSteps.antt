@@ -5,31 +5,11 @@ use Rattle.field_mod.specs.Modular.{Same}
 use Rattle.field_mod.proofs.Modular.{same_refl, same_sym, same_trans}
 use Rattle.chains.specs.Terms.{coefficient}
 use Rattle.algebraic_reduction.specs.Reduction.{Step, IsBoundary, IsStep, IsUnpaired, left, left_all, project, project_all, AreSteps}
+use Rattle.std.specs.Prelude.{slice_get, Some}
 use Rattle.algebraic_reduction.specs.Laws.{AreApart}
-use Rattle.algebraic_reduction.specs.Kept.{KeptStep, steps_of, IsKept, AreKept}
+use Rattle.algebraic_reduction.specs.LogWords.{pairs}
+use Rattle.algebraic_reduction.specs.Kept.{KeptStep, steps_of, IsKept, AreKept, no_step, nth, a_at, b_at, inverse_at, row_at, column_at}
 use Rattle.algebraic_reduction.proofs.Steps.{IsDead, dead_left, pair-dead_a, pair-dead_b, step_one}
-
--- what stands past the end of a list of kept steps
-abbrev pub no_step : KeptStep
-no_step = record { step = record { a = 0; b = 0; inverse = 0 }; row = []; column = [] }
-
-abbrev pub nth : List KeptStep → ℕ → KeptStep
-nth ks i = get_or ks i no_step
-
-abbrev pub a_at : List KeptStep → ℕ → ℕ
-a_at ks i = (nth ks i).step.a
-
-abbrev pub b_at : List KeptStep → ℕ → ℕ
-b_at ks i = (nth ks i).step.b
-
-abbrev pub inverse_at : List KeptStep → ℕ → ℕ
-inverse_at ks i = (nth ks i).step.inverse
-
-abbrev pub row_at : List KeptStep → ℕ → ℕ → ℕ
-row_at ks i g = coefficient (nth ks i).row g
-
-abbrev pub column_at : List KeptStep → ℕ → ℕ → ℕ
-column_at ks i g = coefficient (nth ks i).column g
 
 -- ---- one more step
 
@@ -101,6 +81,11 @@ apart_at (k ∷ ks) zero zero ap i<j j<n = absurd (omega arith)
 apart_at (k ∷ ks) zero (suc j) ap i<j j<n = let u = unpaired_at ks k.step.a ap.0 j (omega arith) in let v = unpaired_at ks k.step.b ap.1 j (omega arith) in (u.0, u.1, v.0, v.1)
 apart_at (k ∷ ks) (suc i) zero ap i<j j<n = absurd (omega arith)
 apart_at (k ∷ ks) (suc i) (suc j) ap i<j j<n = apart_at ks i j ap.2 (omega arith) (omega arith)
+
+pub pairs_at : (ks : List KeptStep) (i : ℕ) → i < length ks → slice_get (pairs (steps_of ks)) i ≡ Some (a_at ks i, b_at ks i)
+pairs_at [] i l = absurd (omega arith)
+pairs_at (k ∷ ks) zero l = refl
+pairs_at (k ∷ ks) (suc i) l = pairs_at ks i (omega arith)
 
 module _ (p n : ℕ) (degree : ℕ → ℕ) (two : 2 ≤ p) where
   pub step_at : (D : ℕ → ℕ → ℕ) (ks : List KeptStep) (i : ℕ) → AreSteps p n D (steps_of ks) → i < length ks → IsStep p n (left_all p D (take i (steps_of ks))) (nth ks i).step

@@ -9,3 +9,7 @@ pub mod KeptSteps
 pub mod Triangular
 pub mod Descent
 pub mod Settled
+pub mod Naming
+pub mod Columns
+pub mod OneMore
+pub mod Start

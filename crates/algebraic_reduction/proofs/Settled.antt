@@ -8,12 +8,12 @@ use Rattle.field_mod.proofs.Modular.{same_by, same_refl, same_sym, same_trans, s
 use Rattle.chains.specs.Terms.{coefficient}
 use Rattle.algebraic_reduction.specs.Reduction.{boundary_by, single, Step, IsBoundary, IsStep, IsUnpaired, IsOnLeft, left, left_all, project, project_all, include, include_all, homotopy, homotopy_all, AreSteps}
 use Rattle.algebraic_reduction.specs.Laws.{AreApart}
-use Rattle.algebraic_reduction.specs.Kept.{KeptStep, steps_of, IsKept, AreKept}
+use Rattle.algebraic_reduction.specs.Kept.{KeptStep, steps_of, IsKept, AreKept, no_step, nth, a_at, b_at, inverse_at, row_at, column_at}
 use Rattle.algebraic_reduction.proofs.Singles.{eqb_sym, total-single, neg_cancel}
 use Rattle.algebraic_reduction.proofs.OneStep.{include-same}
 use Rattle.algebraic_reduction.proofs.Steps.{step_one, project-off_all}
 use Rattle.algebraic_reduction.proofs.LeftBasis.{decide_unpaired, off_paired}
-use Rattle.algebraic_reduction.proofs.KeptSteps.{nth, a_at, b_at, inverse_at, row_at, column_at, unpaired_at, apart_at, IsNoB, column_before, row_before}
+use Rattle.algebraic_reduction.proofs.KeptSteps.{unpaired_at, apart_at, IsNoB, column_before, row_before}
 use Rattle.algebraic_reduction.proofs.Descent.{projected}
 use Rattle.algebraic_reduction.proofs.Triangular.{Equations, rest_at, IsSettled, IsTriangular}
 

@@ -46,23 +46,18 @@ IsLinear p f = (u v : ℕ) (x y : ℕ → ℕ) (g : ℕ) → Same p (f (λ h. u 
 pub record IsReduction (p : ℕ) (K : ChainComplex) (ss : List Step) : Type 0 where
   pub steps : AreStepsOf p K ss
   pub apart : AreApart ss
-
   pub left_squares_to_zero : (h g : ℕ) → Same p (left_boundary_of p K ss (left_of p K ss h) g) 0
   pub left_lowers : (h : ℕ) (k : ℕ) → h < length K.boundaries → slice_index K.degrees h ≡ k + 1 → IsChain p (system K) k (left_of p K ss h)
   pub left_on_left : (h g : ℕ) → ¬ IsUnpaired ss g → Same p (left_of p K ss h g) 0 × Same p (left_of p K ss g h) 0
-
   pub project_linear : IsLinear p (project_of p K ss)
   pub project_on_left : (x : ℕ → ℕ) → IsOnLeft p ss (project_of p K ss x)
   pub project_degree : (k : ℕ) (x : ℕ → ℕ) → IsChain p (system K) k x → IsChain p (system K) k (project_of p K ss x)
   pub project_boundary : (x : ℕ → ℕ) (g : ℕ) → Same p (left_boundary_of p K ss (project_of p K ss x) g) (project_of p K ss (boundary K.boundaries x) g)
-
   pub include_linear : IsLinear p (include_of p K ss)
   pub include_degree : (k : ℕ) (y : ℕ → ℕ) → IsChain p (system K) k y → IsChain p (system K) k (include_of p K ss y)
   pub include_boundary : (y : ℕ → ℕ) → IsOnLeft p ss y → (g : ℕ) → Same p (boundary K.boundaries (include_of p K ss y) g) (include_of p K ss (left_boundary_of p K ss y) g)
-
   pub homotopy_linear : IsLinear p (homotopy_of p K ss)
   pub homotopy_degree : (k : ℕ) (x : ℕ → ℕ) → IsChain p (system K) k x → IsChain p (system K) (k + 1) (homotopy_of p K ss x)
-
   pub round_trip : (y : ℕ → ℕ) → IsOnLeft p ss y → (g : ℕ) → Same p (project_of p K ss (include_of p K ss y) g) (y g)
   pub identity : (x : ℕ → ℕ) (g : ℕ) → Same p (include_of p K ss (project_of p K ss x) g + (boundary K.boundaries (homotopy_of p K ss x) g + homotopy_of p K ss (boundary K.boundaries x) g)) (x g)
 
