@@ -58,7 +58,7 @@ pivot p (suc n) a =
 pub one_nonzero : (p : ℕ) → 2 ≤ p → NonZero p 1
 one_nonzero p h s = let t : 1 % p ≡ 0 = s.same ∙ zero-mod p in let u : 1 % p ≡ 1 = mod-eq_of_lt (omega arith) in absurd (omega arith)
 
-nonzero-mul : (p a b : ℕ) → IsField p → NonZero p a → NonZero p b → NonZero p (a * b)
+pub nonzero-mul : (p a b : ℕ) → IsField p → NonZero p a → NonZero p b → NonZero p (a * b)
 nonzero-mul p a b inv ha hb s =
     let w = inv.inverse a ha in
     hb (same_trans (same_sym (same_by p 0 0 _ _ (omega arith))) (same_trans (same_sym (same-mul w.1 (same_refl p b))) (same_trans (same_by p 0 0 (w.0 * a * b) (w.0 * (a * b)) (omega arith)) (same_trans (same-scale w.0 s) (same_by p 0 0 _ _ (omega arith))))))
@@ -67,7 +67,7 @@ pub neg_cancel : (p x : ℕ) → 1 ≤ p → (p - 1) * x + x ≡ p * x
 neg_cancel zero x h = absurd (omega arith)
 neg_cancel (suc p) x h = let e : suc p - 1 ≡ p = omega arith in rw e (omega arith)
 
-all_zero : (p n : ℕ) (x a : ℕ → ℕ) → ((j : ℕ) → j < n → Same p (a j) 0) → Same p (total n (λ j. x j * a j)) 0
+pub all_zero : (p n : ℕ) (x a : ℕ → ℕ) → ((j : ℕ) → j < n → Same p (a j) 0) → Same p (total n (λ j. x j * a j)) 0
 all_zero p n x a h = same_trans (total_same p n (λ j. x j * a j) (λ j. 0) (λ j l. same_trans (same-scale (x j) (h j l)) (same_by p 0 0 _ _ (omega arith)))) (same_by p 0 0 _ _ (omega (arith, total-zero n)))
 
 -- one step of elimination: the row 0 has a pivot at k

@@ -1,11 +1,11 @@
 -- The product of two chains, by a merge of their terms
-use Rattle.std.proofs.Common.{◌≡◌, ℕ, zero, suc, ◌+◌, ◌*◌, ◌/◌, ◌%◌, ◌^◌, ◌<◌, ◌≤◌, refl, sym, ap, ◌∙◌, arith, List, [], ◌∷◌, length, get_or, drop, eq-eqb, ne_eqb, mod-eq_of_lt}
+use Rattle.std.proofs.Common.{◌≡◌, ℕ, ◌+◌, ◌*◌, ◌/◌, ◌%◌, ◌^◌, ◌<◌, ◌≤◌, refl, sym, ap, ◌∙◌, arith, List, [], ◌∷◌, length, get_or, drop, eq-eqb, ne_eqb, mod-eq_of_lt}
 use Rattle.std.proofs.lemmas.List.{drop_more, drop_all}
 use native.Mathlib.Nat.{mul-zero}
 use Rattle.field_mod.specs.Modular.{Same}
 use Rattle.field_mod.proofs.Modular.{same_by, same_trans}
 use Rattle.chains.specs.Terms.{coefficient, product, IsNormal, IsNormalWithin}
-use Rattle.chains.proofs.TermLists.{coefficient-below, raised, lowered}
+use Rattle.chains.proofs.TermLists.{coefficient-below, raised}
 
 -- the sum so far, and what is left of the two lists
 pub record Dotting (p s : ℕ) (a b xs ys : List (ℕ × ℕ)) : Type 0 where

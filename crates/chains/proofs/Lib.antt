@@ -5,3 +5,6 @@ pub mod Summing
 pub mod Dependent
 pub mod Boundary
 pub mod Faults
+pub mod Systems
+pub mod Exchange
+pub mod Numbered

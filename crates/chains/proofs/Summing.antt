@@ -1,5 +1,5 @@
 -- The sum of terms in which equal generators stand together
-use Rattle.std.proofs.Common.{◌≡◌, ◌≢◌, ℕ, zero, suc, ◌+◌, ◌*◌, ◌/◌, ◌%◌, ◌^◌, ◌<◌, ◌≤◌, refl, sym, ap, ◌∙◌, arith, List, [], ◌∷◌, length, get_or, drop, true, false, cond, eqb, mod-eq_of_lt, mod-lt}
+use Rattle.std.proofs.Common.{◌≡◌, ◌≢◌, ℕ, ◌+◌, ◌*◌, ◌/◌, ◌%◌, ◌^◌, ◌<◌, ◌≤◌, refl, sym, ap, ◌∙◌, arith, List, [], ◌∷◌, length, get_or, drop, true, false, cond, eqb, mod-eq_of_lt}
 use Rattle.std.specs.List.{sum_by}
 use Rattle.std.specs.List.Sorted.{IsNonDecreasingBy, IsPermutation}
 use Rattle.std.proofs.lemmas.List.{drop_more, drop_all}
@@ -81,8 +81,10 @@ sum_next p g s n i ts sums new m l ne short sorted e en below =
 
 pub sum_end : (p g s i : ℕ) (ts sums new : List (ℕ × ℕ)) → 0 < p → Summing p g s i ts sums → length ts ≤ i → new ≡ push_term sums g s → IsNormal p new × ((h : ℕ) → coefficient new h ≡ coefficient ts h % p)
 sum_end p g s i ts sums new pos m l e =
-    let done : IsNormalWithin p 0 (2 ^ 32) new = rw e (widened p 0 (g + 1) (2 ^ 32) (push_term sums g s) (IsNormalWithin-push_term p g g s sums m.done (omega arith) m.below) (let q = m.short in omega arith)) in
-    (done, (λ h.
-    let c : coefficient new h ≡ coefficient sums h + cond (eqb g h) s 0 = ap (λ us. coefficient us h) e ∙ coefficient-push_term sums g s h in
-    let z : coefficient (drop i ts) h ≡ 0 = ap (λ us. coefficient us h) (drop_all i ts l) in
-    sym (mod-eq_of_lt (coefficient-lt p 0 (2 ^ 32) new h pos done)) ∙ (same_trans (same_by p 0 0 (coefficient new h) (coefficient sums h + cond (eqb g h) s 0 + coefficient (drop i ts) h) (omega arith)) (m.same h)).same))
+    let done : IsNormalWithin p 0 (2 ^ 32) new = rw e (widened p 0 (g + 1) (2 ^ 32) (push_term sums g s) (IsNormalWithin-push_term p g g s sums m.done (omega arith) m.below) (let q = m.short in omega arith)) in (
+      done,
+      (λ h.
+          let c : coefficient new h ≡ coefficient sums h + cond (eqb g h) s 0 = ap (λ us. coefficient us h) e ∙ coefficient-push_term sums g s h in
+          let z : coefficient (drop i ts) h ≡ 0 = ap (λ us. coefficient us h) (drop_all i ts l) in
+          sym (mod-eq_of_lt (coefficient-lt p 0 (2 ^ 32) new h pos done)) ∙ (same_trans (same_by p 0 0 (coefficient new h) (coefficient sums h + cond (eqb g h) s 0 + coefficient (drop i ts) h) (omega arith)) (m.same h)).same),
+    )

@@ -1,5 +1,5 @@
 -- Laws of homology modulo a prime. Each is stated for generators that are numbers; the lemmas behind them hold for any kind.
-use Rattle.std.specs.Prelude.{◌≡◌, ℕ, ◌+◌, List, length}
+use Rattle.std.specs.Prelude.{◌≡◌, ℕ, List, length}
 use Rattle.field_mod.specs.Modular.{IsField}
 use Rattle.chains.specs.Homology.{System, IsBoundaryOperator, IsChain, IsBoundaryOf, IsNull, IsBasis}
 use Rattle.chains.specs.ChainComplex.{ChainComplex, IsComplex, IsBasisOf, system}

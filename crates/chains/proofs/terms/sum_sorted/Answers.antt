@@ -1,4 +1,4 @@
-use Rattle.std.proofs.Common.{ℕ, ◌<◌, ◌^◌, get_or, arith, refl, rules, mod-lt, ap, ◌∙◌}
+use Rattle.std.proofs.Common.{ℕ, ◌<◌, ◌^◌, get_or, arith, refl, mod-lt, ap, ◌∙◌}
 use Rattle.field_mod.proofs.Table.{two_le}
 use Rattle.chains.proofs.Summing.{sum_start, sum_more, sum_next, sum_end}
 use Rattle.chains.proofs.terms.sum_sorted.Goals as goal
@@ -9,11 +9,16 @@ loop-next-init g c = sum_start _ _ _ _ _ (omega (arith, two_le g.row.P c.args.fi
 
 pub add-number-requires : goal.add-number-requires
 add-number-requires g c =
-    let two = two_le g.row.P c.args.field.listed in
-    ((omega arith), ((elim c.if-next-generator.branch [
-      | then-next-generator+in_ok-push_term w ↦ omega (arith, w.number-is)
-      | else-next-generator w ↦ omega (arith, w.number-is, c.loop-next.invariant.below)
-    ]), mod-lt _ (omega arith)))
+    let two = two_le g.row.P c.args.field.listed in (
+      (omega arith),
+      (
+        (elim c.if-next-generator.branch [
+          | then-next-generator+in_ok-push_term w ↦ omega (arith, w.number-is)
+          | else-next-generator w ↦ omega (arith, w.number-is, c.loop-next.invariant.below)
+        ]),
+        mod-lt _ (omega arith),
+      ),
+    )
 
 pub loop-next-preserved : goal.loop-next-preserved
 loop-next-preserved g c =
