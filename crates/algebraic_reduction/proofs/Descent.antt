@@ -6,12 +6,13 @@ use Rattle.std.proofs.lemmas.List.{take_more, take_all}
 use Rattle.field_mod.specs.Modular.{Same, minus}
 use Rattle.field_mod.proofs.Modular.{same_by, same_refl, same_sym, same_trans, same-add, same-scale, same-mul}
 use Rattle.chains.specs.Terms.{coefficient}
+use Rattle.algebraic_reduction.specs.Maps.{IsNoB, projected, Descent}
 use Rattle.algebraic_reduction.specs.Reduction.{Step, IsBoundary, IsUnpaired, left_all, project, project_all, AreSteps}
 use Rattle.algebraic_reduction.specs.Laws.{AreApart}
 use Rattle.algebraic_reduction.specs.Kept.{KeptStep, steps_of, IsKept, AreKept, no_step, nth, a_at, b_at, inverse_at, row_at, column_at}
 use Rattle.algebraic_reduction.proofs.Steps.{project-off_all}
 use Rattle.algebraic_reduction.proofs.LeftBasis.{decide_unpaired, off_paired}
-use Rattle.algebraic_reduction.proofs.KeptSteps.{steps_of-append, project_all-append, kept_at, apart_at, IsNoB, no_b-append, no_b_by, no_b_at, unpaired_no_b}
+use Rattle.algebraic_reduction.proofs.KeptSteps.{steps_of-append, project_all-append, kept_at, apart_at, no_b-append, no_b_by, no_b_at, unpaired_no_b}
 
 pub take-steps_of : (i : ℕ) (ks : List KeptStep) → take i (steps_of ks) ≡ steps_of (take i ks)
 take-steps_of zero ks = refl
@@ -20,19 +21,6 @@ take-steps_of (suc i) (k ∷ ks) = ap (λ (ss : List Step). k.step ∷ ss) (take
 
 pub steps_of-take_more : (ks : List KeptStep) (i : ℕ) → i < length ks → steps_of (take (i + 1) ks) ≡ steps_of (take i ks) ++ (nth ks i).step ∷ []
 steps_of-take_more ks i l = ap steps_of (take_more ks i no_step l) ∙ steps_of-append (take i ks) (nth ks i)
-
--- x after the first i steps of ks
-abbrev pub projected : ℕ → (ℕ → ℕ → ℕ) → List KeptStep → (ℕ → ℕ) → ℕ → ℕ → ℕ
-projected p D ks x i = project_all p D (steps_of (take i ks)) x
-
--- x is the chain start after the first done steps, but for what stands at their b, and w has at each of these b what the
--- homotopy of the step gives
-pub record Descent (p : ℕ) (D : ℕ → ℕ → ℕ) (ks : List KeptStep) (start x w : ℕ → ℕ) (done : ℕ) : Type 0 where
-  pub within : done ≤ length ks
-  pub near : (g : ℕ) → IsNoB (steps_of (take done ks)) g → Same p (x g) (projected p D ks start done g)
-  pub weights : (i : ℕ) → i < done → Same p (w (b_at ks i)) (inverse_at ks i * projected p D ks start i (a_at ks i))
-  pub ahead : (i : ℕ) → done ≤ i → i < length ks → Same p (w (b_at ks i)) 0
-  pub off : (g : ℕ) → IsNoB (steps_of ks) g → Same p (w g) 0
 
 pub descent_start : (p : ℕ) (D : ℕ → ℕ → ℕ) (ks : List KeptStep) (x : ℕ → ℕ) → Descent p D ks x x (λ g. 0) 0
 descent_start p D ks x = record { within = omega arith; near = λ g u. same_refl p (x g); weights = λ i l. absurd (omega arith); ahead = λ i l q. same_refl p 0; off = λ g u. same_refl p 0 }
@@ -127,3 +115,31 @@ module _ (p n : ℕ) (degree : ℕ → ℕ) (two : 2 ≤ p) (D : ℕ → ℕ →
       (λ u. same_trans (kept g u) (subst (λ (ss : List Step). Same p (x g) (project_all p D ss start g)) e (d.near g (subst (λ (ss : List Step). IsNoB ss g) (sym e) (unpaired_no_b (steps_of ks) g u)))))
       (λ v. same_trans (dropped g v) (same_sym (off_paired p (steps_of ks) (project_all p D (steps_of ks) start) g (project-off_all p n degree two D (steps_of ks) bd st start) v)))
       (decide_unpaired (steps_of ks) g)
+
+  -- the first step at whose a anything stands
+  pub descent_first : (start : ℕ → ℕ) (next : ℕ) → next ≤ length ks → ((k : ℕ) → k < next → Same p (start (a_at ks k)) 0) → Descent p D ks start start (λ g. 0) next
+  descent_first start next l z =
+      let e : 0 + next ≡ next = omega arith in
+      subst (λ (k : ℕ). Descent p D ks start start (λ g. 0) k) e (descent_to start start (λ g. 0) 0 next (descent_start p D ks start) (omega arith) (λ k a b. z k (omega arith)))
+
+  -- the step at i is made, and then nothing stands before next
+  pub descent_next : (start x w x' w' : ℕ → ℕ) (i s t next : ℕ) → Descent p D ks start x w i → i < length ks
+      → Same p s (minus p (inverse_at ks i * x (a_at ks i)))
+      → Same p t (inverse_at ks i * x (a_at ks i))
+      → ((g : ℕ) → Same p (x' g) (x g + s * row_at ks i g))
+      → ((g : ℕ) → Same p (w' g) (w g + cond (eqb g (b_at ks i)) t 0))
+      → i + 1 ≤ next → next ≤ length ks → ((k : ℕ) → i + 1 ≤ k → k < next → Same p (x' (a_at ks k)) 0)
+      → Descent p D ks start x' w' next
+  descent_next start x w x' w' i s t next d l es et ex ew lo hi z =
+      let e : i + 1 + (next - (i + 1)) ≡ next = omega arith in
+      subst (λ (k : ℕ). Descent p D ks start x' w' k) e (descent_to start x' w' (i + 1) (next - (i + 1)) (descent_step start x w x' w' i s t d l es et ex ew) (omega arith) (λ k a b. z k a (omega arith)))
+
+-- the weights modulo p alone count
+pub descent_same : (p : ℕ) (D : ℕ → ℕ → ℕ) (ks : List KeptStep) (start x w w' : ℕ → ℕ) (done : ℕ) → ((g : ℕ) → Same p (w' g) (w g)) → Descent p D ks start x w done → Descent p D ks start x w' done
+descent_same p D ks start x w w' done e d = record {
+  within = d.within;
+  near = d.near;
+  weights = λ i l. same_trans (e (b_at ks i)) (d.weights i l);
+  ahead = λ i l q. same_trans (e (b_at ks i)) (d.ahead i l q);
+  off = λ g u. same_trans (e g) (d.off g u);
+}

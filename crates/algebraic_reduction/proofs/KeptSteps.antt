@@ -4,6 +4,7 @@ use Rattle.std.proofs.lemmas.Bool.{cases_eq}
 use Rattle.field_mod.specs.Modular.{Same}
 use Rattle.field_mod.proofs.Modular.{same_refl, same_sym, same_trans}
 use Rattle.chains.specs.Terms.{coefficient}
+use Rattle.algebraic_reduction.specs.Maps.{IsNoB}
 use Rattle.algebraic_reduction.specs.Reduction.{Step, IsBoundary, IsStep, IsUnpaired, left, left_all, project, project_all, AreSteps}
 use Rattle.std.specs.Prelude.{slice_get, Some}
 use Rattle.algebraic_reduction.specs.Laws.{AreApart}
@@ -52,11 +53,6 @@ pub unpaired_by : (ks : List KeptStep) (g : ℕ) → ((i : ℕ) → i < length k
 unpaired_by [] g h = tt
 unpaired_by (k ∷ ks) g h = ((h 0 (omega arith)).0, (h 0 (omega arith)).1, unpaired_by ks g (λ i l. h (suc i) (omega arith)))
 
--- g is no b of a step
-abbrev pub IsNoB : List Step → ℕ → Type 0
-IsNoB [] g = Unit {0}
-IsNoB (s ∷ ss) g = (g ≢ s.b) × IsNoB ss g
-
 pub unpaired_no_b : (ss : List Step) (g : ℕ) → IsUnpaired ss g → IsNoB ss g
 unpaired_no_b [] g u = tt
 unpaired_no_b (s ∷ ss) g u = (u.1, unpaired_no_b ss g u.2)
@@ -99,12 +95,12 @@ module _ (p n : ℕ) (degree : ℕ → ℕ) (two : 2 ≤ p) where
   kept_at D (k ∷ ks) (suc i) l q = kept_at (left p D k.step) ks i l.1 (omega arith)
 
   -- a row has nothing at what is dead, and a column neither
-  row_dead : (D : ℕ → ℕ → ℕ) (ks : List KeptStep) (i v : ℕ) → AreKept p D ks → i < length ks → IsDead p D v → Same p (row_at ks i v) 0
+  pub row_dead : (D : ℕ → ℕ → ℕ) (ks : List KeptStep) (i v : ℕ) → AreKept p D ks → i < length ks → IsDead p D v → Same p (row_at ks i v) 0
   row_dead D [] i v l q d = absurd (omega arith)
   row_dead D (k ∷ ks) zero v l q d = same_trans (l.0.row v) (d.column k.step.b)
   row_dead D (k ∷ ks) (suc i) v l q d = row_dead (left p D k.step) ks i v l.1 (omega arith) (dead_left p n degree two D k.step v d)
 
-  column_dead : (D : ℕ → ℕ → ℕ) (ks : List KeptStep) (i v : ℕ) → AreKept p D ks → i < length ks → v ≢ b_at ks i → IsDead p D v → Same p (column_at ks i v) 0
+  pub column_dead : (D : ℕ → ℕ → ℕ) (ks : List KeptStep) (i v : ℕ) → AreKept p D ks → i < length ks → v ≢ b_at ks i → IsDead p D v → Same p (column_at ks i v) 0
   column_dead D [] i v l q f d = absurd (omega arith)
   column_dead D (k ∷ ks) zero v l q f d = same_trans (l.0.column v f) (d.row k.step.a)
   column_dead D (k ∷ ks) (suc i) v l q f d = column_dead (left p D k.step) ks i v l.1 (omega arith) f (dead_left p n degree two D k.step v d)

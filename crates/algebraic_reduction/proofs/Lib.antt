@@ -13,3 +13,6 @@ pub mod Naming
 pub mod Columns
 pub mod OneMore
 pub mod Start
+pub mod MapSteps
+pub mod DueSteps
+pub mod MapResults

@@ -32,10 +32,10 @@ pub record Naming (old new : List (List ℕ)) (row boundary : List (ℕ × ℕ))
 pub naming_start : (lists : List (List ℕ)) (row boundary : List (ℕ × ℕ)) (generator : ℕ) → Naming lists lists row boundary generator 0
 naming_start lists row boundary generator = record { stay = λ g h s. s; same = λ g f. refl; named = λ g l f z. absurd (f refl) }
 
-coefficient_more : (row : List (ℕ × ℕ)) (k g : ℕ) → k < length row → coefficient (take (k + 1) row) g ≡ coefficient (take k row) g + (cond (eqb (get_or row k (0, 0)).0 g) (get_or row k (0, 0)).1 0 + 0)
+pub coefficient_more : (row : List (ℕ × ℕ)) (k g : ℕ) → k < length row → coefficient (take (k + 1) row) g ≡ coefficient (take k row) g + (cond (eqb (get_or row k (0, 0)).0 g) (get_or row k (0, 0)).1 0 + 0)
 coefficient_more row k g l = ap (λ (ts : List (ℕ × ℕ)). coefficient ts g) (take_more row k (0, 0) l) ∙ coefficient-append (take k row) (get_or row k (0, 0) ∷ []) g
 
-coefficient_other : (row : List (ℕ × ℕ)) (k g : ℕ) → k < length row → (get_or row k (0, 0)).0 ≢ g → coefficient (take (k + 1) row) g ≡ coefficient (take k row) g
+pub coefficient_other : (row : List (ℕ × ℕ)) (k g : ℕ) → k < length row → (get_or row k (0, 0)).0 ≢ g → coefficient (take (k + 1) row) g ≡ coefficient (take k row) g
 coefficient_other row k g l f = coefficient_more row k g l ∙ (rw (ne_eqb (get_or row k (0, 0)).0 g f) (omega arith))
 
 pub naming_skip : (old new : List (List ℕ)) (row boundary : List (ℕ × ℕ)) (generator k : ℕ) → Naming old new row boundary generator k → k < length row → ((get_or row k (0, 0)).0 < length new → coefficient boundary (get_or row k (0, 0)).0 ≢ 0) → Naming old new row boundary generator (k + 1)

@@ -6,6 +6,7 @@ use Rattle.field_mod.specs.Modular.{Same, minus}
 use Rattle.field_mod.proofs.Sums.{total-same, total-zero, total-add, total-scale, total_same}
 use Rattle.field_mod.proofs.Modular.{same_by, same_refl, same_sym, same_trans, same-add, same-scale, same-mul}
 use Rattle.chains.specs.Terms.{coefficient}
+use Rattle.algebraic_reduction.specs.Maps.{IsNoB, projected, Equations, rest_at, IsSettled, columns, rows}
 use Rattle.algebraic_reduction.specs.Reduction.{boundary_by, single, Step, IsBoundary, IsStep, IsUnpaired, IsOnLeft, left, left_all, project, project_all, include, include_all, homotopy, homotopy_all, AreSteps}
 use Rattle.algebraic_reduction.specs.Laws.{AreApart}
 use Rattle.algebraic_reduction.specs.Kept.{KeptStep, steps_of, IsKept, AreKept, no_step, nth, a_at, b_at, inverse_at, row_at, column_at}
@@ -13,17 +14,8 @@ use Rattle.algebraic_reduction.proofs.Singles.{eqb_sym, total-single, neg_cancel
 use Rattle.algebraic_reduction.proofs.OneStep.{include-same}
 use Rattle.algebraic_reduction.proofs.Steps.{step_one, project-off_all}
 use Rattle.algebraic_reduction.proofs.LeftBasis.{decide_unpaired, off_paired}
-use Rattle.algebraic_reduction.proofs.KeptSteps.{unpaired_at, apart_at, IsNoB, column_before, row_before}
-use Rattle.algebraic_reduction.proofs.Descent.{projected}
-use Rattle.algebraic_reduction.proofs.Triangular.{Equations, rest_at, IsSettled, IsTriangular}
-
--- the columns, with the b as pivots
-abbrev pub columns : List KeptStep → Equations
-columns ks = record { count = length ks; pivot = b_at ks; inverse = inverse_at ks; at = column_at ks }
-
--- the rows, with the a as pivots
-abbrev pub rows : List KeptStep → Equations
-rows ks = record { count = length ks; pivot = a_at ks; inverse = inverse_at ks; at = row_at ks }
+use Rattle.algebraic_reduction.proofs.KeptSteps.{unpaired_at, apart_at, column_before, row_before}
+use Rattle.algebraic_reduction.proofs.Triangular.{IsTriangular}
 
 module _ (p n : ℕ) (degree : ℕ → ℕ) (two : 2 ≤ p) where
   pub columns_triangular : (D : ℕ → ℕ → ℕ) (ks : List KeptStep) → IsBoundary p n degree D → AreSteps p n D (steps_of ks) → AreKept p D ks → AreApart (steps_of ks) → IsTriangular p (columns ks)

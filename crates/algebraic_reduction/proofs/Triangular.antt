@@ -6,22 +6,8 @@ use Rattle.field_mod.specs.Sums.{total}
 use Rattle.field_mod.specs.Modular.{Same, minus}
 use Rattle.field_mod.proofs.Sums.{total-same, total-zero, total_same}
 use Rattle.field_mod.proofs.Modular.{same_by, same_refl, same_sym, same_trans, same-add, same-scale, same-mul}
+use Rattle.algebraic_reduction.specs.Maps.{Equations, rest_at, IsSettled}
 use Rattle.algebraic_reduction.proofs.Singles.{eqb_cases}
-
--- the equations' number, pivots, inverses and coefficients
-pub record Equations : Type 0 where
-  pub count : ℕ
-  pub pivot : ℕ → ℕ
-  pub inverse : ℕ → ℕ
-  pub at : ℕ → ℕ → ℕ
-
--- the sum of equation i at y, but for its pivot
-abbrev pub rest_at : ℕ → Equations → (ℕ → ℕ) → ℕ → ℕ
-rest_at n e y i = total n (λ g. cond (eqb g (e.pivot i)) 0 (e.at i g * y g))
-
--- y keeps equation i, where y0 are the values at the start
-abbrev pub IsSettled : ℕ → ℕ → Equations → (ℕ → ℕ) → (ℕ → ℕ) → ℕ → Type 0
-IsSettled p n e y0 y i = Same p (y (e.pivot i)) (y0 (e.pivot i) + minus p (e.inverse i * rest_at n e y i))
 
 -- pivots are distinct, and an equation has nothing at an earlier one's pivot
 pub record IsTriangular (p : ℕ) (e : Equations) : Type 0 where
@@ -34,23 +20,23 @@ pub record Settling (p n : ℕ) (e : Equations) (y0 y : ℕ → ℕ) (due : ℕ 
   pub others : (g : ℕ) → ((i : ℕ) → i < e.count → g ≢ e.pivot i) → Same p (y g) (y0 g)
   pub ahead : (i : ℕ) → i < bound → Same p (y (e.pivot i)) (y0 (e.pivot i))
   pub settled : (i : ℕ) → bound ≤ i → i < e.count → IsSettled p n e y0 y i
-  pub waiting : (i g : ℕ) → i < bound → due i ≡ false → g ≢ e.pivot i → Same p (e.at i g * y g) 0
+  pub waiting : (i g : ℕ) → i < bound → g < n → due i ≡ false → g ≢ e.pivot i → Same p (e.at i g * y g) 0
   pub below : (i : ℕ) → due i ≡ true → i < bound
 
 module _ (p n : ℕ) (e : Equations) (tri : IsTriangular p e) (y0 : ℕ → ℕ) where
-  rest-none : (y : ℕ → ℕ) (i : ℕ) → ((g : ℕ) → g ≢ e.pivot i → Same p (e.at i g * y g) 0) → Same p (rest_at n e y i) 0
-  rest-none y i z = same_trans (total_same p n (λ g. cond (eqb g (e.pivot i)) 0 (e.at i g * y g)) (λ g. 0) (λ g l. ⊎_elim (λ q. rw (eq-eqb g (e.pivot i) q) (same_refl p 0)) (λ f. rw (ne_eqb g (e.pivot i) f) (z g f)) (cases_eq g (e.pivot i)))) (same_by p 0 0 _ _ (omega (arith, total-zero n)))
+  rest-none : (y : ℕ → ℕ) (i : ℕ) → ((g : ℕ) → g < n → g ≢ e.pivot i → Same p (e.at i g * y g) 0) → Same p (rest_at n e y i) 0
+  rest-none y i z = same_trans (total_same p n (λ g. cond (eqb g (e.pivot i)) 0 (e.at i g * y g)) (λ g. 0) (λ g l. ⊎_elim (λ q. rw (eq-eqb g (e.pivot i) q) (same_refl p 0)) (λ f. rw (ne_eqb g (e.pivot i) f) (z g l f)) (cases_eq g (e.pivot i)))) (same_by p 0 0 _ _ (omega (arith, total-zero n)))
 
   rest-same : (y z : ℕ → ℕ) (i : ℕ) → ((g : ℕ) → g ≢ e.pivot i → Same p (e.at i g * y g) (e.at i g * z g)) → Same p (rest_at n e y i) (rest_at n e z i)
   rest-same y z i h = total_same p n (λ g. cond (eqb g (e.pivot i)) 0 (e.at i g * y g)) (λ g. cond (eqb g (e.pivot i)) 0 (e.at i g * z g)) (λ g l. ⊎_elim (λ q. rw (eq-eqb g (e.pivot i) q) (same_refl p 0)) (λ f. rw (ne_eqb g (e.pivot i) f) (h g f)) (cases_eq g (e.pivot i)))
 
   -- an equation that is not due is kept
-  idle : (y : ℕ → ℕ) (i : ℕ) → Same p (y (e.pivot i)) (y0 (e.pivot i)) → ((g : ℕ) → g ≢ e.pivot i → Same p (e.at i g * y g) 0) → IsSettled p n e y0 y i
+  idle : (y : ℕ → ℕ) (i : ℕ) → Same p (y (e.pivot i)) (y0 (e.pivot i)) → ((g : ℕ) → g < n → g ≢ e.pivot i → Same p (e.at i g * y g) 0) → IsSettled p n e y0 y i
   idle y i same z = same_trans same (same_sym (same_trans (same-add (same_refl p (y0 (e.pivot i))) (same-scale (p - 1) (same-scale (e.inverse i) (rest-none y i z)))) (same_by p 0 0 _ _ (omega arith))))
 
   -- no equation is due: all are kept
   pub settled_all : (y : ℕ → ℕ) (due : ℕ → Bool) (bound : ℕ) → Settling p n e y0 y due bound → ((i : ℕ) → due i ≡ false) → (i : ℕ) → i < e.count → IsSettled p n e y0 y i
-  settled_all y due bound s none i l = ⊎_elim (λ q. idle y i (s.ahead i q) (λ g f. s.waiting i g q (none i) f)) (λ q. s.settled i q l) (cases_lt i bound)
+  settled_all y due bound s none i l = ⊎_elim (λ q. idle y i (s.ahead i q) (λ g m f. s.waiting i g q m (none i) f)) (λ q. s.settled i q l) (cases_lt i bound)
 
   -- the last equation that is due is settled: the value at its pivot is changed by t, and those before it at which the pivot
   -- stands are due
@@ -69,9 +55,9 @@ module _ (p n : ℕ) (e : Equations) (tri : IsTriangular p e) (y0 : ℕ → ℕ)
     others = λ g f. same_trans (away g (f i (omega (arith, s.bounded)))) (s.others g f);
     ahead = λ j q. same_trans (away (e.pivot j) (pivots j q)) (s.ahead j (omega arith));
     settled = λ j q c. ⊎_elim (λ eq. subst (λ (k : ℕ). IsSettled p n e y0 y' k) (sym eq) here) (λ f. keep j (omega arith) c (before j (omega arith) c)) (cases_eq j i);
-    waiting = λ j g q d f. ⊎_elim
+    waiting = λ j g q m d f. ⊎_elim
         (λ eq. subst (λ (k : ℕ). Same p (e.at j k * y' k) 0) (sym eq) (added j q d))
-        (λ ne. same_trans (same-mul (same_refl p (e.at j g)) (away g ne)) (s.waiting j g (omega arith) (not_due j q d) f))
+        (λ ne. same_trans (same-mul (same_refl p (e.at j g)) (away g ne)) (s.waiting j g (omega arith) m (not_due j q d) f))
         (cases_eq g (e.pivot i));
     below = inside;
   }
@@ -102,7 +88,7 @@ module _ (p n : ℕ) (e : Equations) (tri : IsTriangular p e) (y0 : ℕ → ℕ)
 
       before : (j : ℕ) → i < j → j < e.count → IsSettled p n e y0 y j
       before j q c = ⊎_elim
-          (λ w. idle y j (s.ahead j w) (λ g f. s.waiting j g w (⊎_elim (λ a. absurd (⊎_elim (λ eq. omega arith) (λ b. let k = lower j b in omega arith) (was j a))) (λ f. f) (true_or_false (due j))) f))
+          (λ w. idle y j (s.ahead j w) (λ g m f. s.waiting j g w m (⊎_elim (λ a. absurd (⊎_elim (λ eq. omega arith) (λ b. let k = lower j b in omega arith) (was j a))) (λ f. f) (true_or_false (due j))) f))
           (λ w. s.settled j w c)
           (cases_lt j bound)
 

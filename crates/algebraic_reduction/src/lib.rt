@@ -3,10 +3,15 @@
 #![tactic(auto)]
 
 mod clearing;
+mod descending;
+mod due;
 mod generators;
 mod kept;
 mod laws;
 mod log;
+mod maps;
+mod settling;
+mod side;
 mod starting;
 mod stepping;
 

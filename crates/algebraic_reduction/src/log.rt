@@ -1,13 +1,16 @@
 //! The log of reduced pairs.
 ghost use Rattle.std.specs.Prelude.{◌≡◌, ◌≢◌, ℕ, ◌+◌, ◌*◌, ◌%◌, ◌<◌, ◌≤◌, ◌↔◌, List, [], length, IfOk, IsTrue, Some, slice_get};
+ghost use Rattle.field_mod.specs.Sums.{total};
 ghost use Rattle.field_mod.specs.Modular.{Same, NonZero};
 ghost use Rattle.field_mod.specs.Moduli.{IsModulus};
 ghost use Rattle.chains.specs.Terms.{coefficient};
 ghost use Rattle.chains.specs.ChainComplex.{IsComplex};
-ghost use Rattle.algebraic_reduction.specs.Reduction.{IsUnpaired};
-ghost use Rattle.algebraic_reduction.specs.Laws.{AreStepsOf, left_of, IsReduction};
+ghost use Rattle.algebraic_reduction.specs.Reduction.{IsOnLeft, IsUnpaired, single};
+ghost use Rattle.algebraic_reduction.specs.Laws.{AreStepsOf, left_of, project_of, include_of, homotopy_of, IsReduction};
 ghost use Rattle.algebraic_reduction.specs.LogWords.{pairs, IsOneMore};
 
+use crate::descending::project;
+use crate::maps;
 use crate::starting::start_parts;
 use crate::stepping::{Parts, place_of, take_pair};
 use chains::{Chain, Complex};
@@ -93,5 +96,55 @@ impl<const P: u16> Log<P> {
         let Log { mut parts, alloc } = self;
         take_pair(&mut parts, alloc, field, a, b)?;
         Ok(Log { parts, alloc })
+    }
+
+    /// The projection of a chain to what is left. Its cost is that of the steps that the chain meets.
+    pub fn project(
+        &self,
+        alloc: Global,
+        field: Field<P>,
+        chain: &Chain<P>,
+    ) -> Result<Chain<P>, AllocError>
+        ensures { IfOk result (λ c. (g : ℕ) → Same P (coefficient c g) (project_of P self.now.complex self.now.steps (coefficient chain.now) g)) }
+    {
+        project(&self.parts, alloc, field, chain)
+    }
+
+    /// The inclusion of a chain on what is left, at the cost of the steps in whose columns it stands.
+    pub fn include(
+        &self,
+        alloc: Global,
+        field: Field<P>,
+        chain: &Chain<P>,
+    ) -> Result<Chain<P>, AllocError>
+        requires { IsOnLeft P self.now.steps (coefficient chain.now) }
+        ensures { IfOk result (λ c. (g : ℕ) → Same P (coefficient c g) (include_of P self.now.complex self.now.steps (coefficient chain.now) g)) }
+    {
+        maps::include(&self.parts, alloc, field, chain)
+    }
+
+    /// The homotopy of a chain, at the cost of the steps that it meets.
+    pub fn homotopy(
+        &self,
+        alloc: Global,
+        field: Field<P>,
+        chain: &Chain<P>,
+    ) -> Result<Chain<P>, AllocError>
+        ensures { IfOk result (λ c. (g : ℕ) → Same P (coefficient c g) (homotopy_of P self.now.complex self.now.steps (coefficient chain.now) g)) }
+    {
+        maps::homotopy(&self.parts, alloc, field, chain)
+    }
+
+    /// The transposed projection of a chain: the chain whose coefficient at a generator is the product of the given one with
+    /// the projection of the generator. Its cost is that of the steps in whose rows it stands.
+    pub fn transposed_projection(
+        &self,
+        alloc: Global,
+        field: Field<P>,
+        chain: &Chain<P>,
+    ) -> Result<Chain<P>, AllocError>
+        ensures { IfOk result (λ c. (g : ℕ) → g < length self.now.complex.boundaries → Same P (coefficient c g) (total (length self.now.complex.boundaries) (λ h. coefficient chain.now h * project_of P self.now.complex self.now.steps (single g) h))) }
+    {
+        maps::transposed_projection(&self.parts, alloc, field, chain)
     }
 }

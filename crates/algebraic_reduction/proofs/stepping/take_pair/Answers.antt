@@ -20,7 +20,7 @@ returns-clause-state g c =
     let e = c.in_ok-kept.ensures in
     state_after g.row.P c.args.a c.args.b p.boundaries.len p.cofaces.len p.standing.len c.len-place.result (two_le g.row.P c.args.field.listed) p.complex p.boundaries.items c.deref_mut.result.now c.clear_pair.new.boundaries _ p.cofaces.items c.deref_mut-2.result.now c.clear_pair.new.cofaces _ p.standing.items c.deref_mut-3.result.now c.name_row-2.new.lists _ p.places.items p.steps.items c.push.new.self.items c.in_ok-kept.kept c.requires.state c.requires.a_in c.requires.b_in
     c.deref_mut.ensures.value c.deref_mut-2.ensures.value c.deref_mut-3.ensures.value e.step.0 e.step.1 c.requires.incident e.inverts e.kept e.left c.clear_pair.auto.boundaries c.clear_pair.auto.cofaces c.name_row-2.auto.lists e.covered e.stay c.in_ok-name_row.ensures.stay
-    (λ j l f. c.in_ok-name_row.ensures.named j l (λ z. f (ap (λ (t : List (ℕ × ℕ)). coefficient t j) (sym c.column.ensures) ∙ z)) (ap (λ (t : List (ℕ × ℕ)). coefficient t j) c.empty.ensures))
+    (λ j l f. c.in_ok-name_row.ensures.named j l (λ z. f (ap (λ (t : List (ℕ × ℕ)). coefficient t j) (sym c.column.ensures.value) ∙ z)) (ap (λ (t : List (ℕ × ℕ)). coefficient t j) c.empty.ensures))
     p.boundaries.ok.0 p.cofaces.ok.0 p.standing.ok.0 (c.len-place.ensures ∙ p.steps.ok.0) c.in_ok-push.ensures.items
 
 pub returns-clause-one_more : goal.returns-clause-one_more
