@@ -16,3 +16,4 @@ pub mod Start
 pub mod MapSteps
 pub mod DueSteps
 pub mod MapResults
+pub mod Going

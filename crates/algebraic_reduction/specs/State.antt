@@ -5,6 +5,7 @@ use Rattle.chains.specs.Terms.{coefficient}
 use Rattle.chains.specs.ChainComplex.{ChainComplex, IsComplex, incidence}
 use Rattle.algebraic_reduction.specs.Reduction.{IsUnpaired}
 use Rattle.algebraic_reduction.specs.Laws.{AreStepsOf, left_of}
+use Rattle.algebraic_reduction.specs.LogWords.{AreFurther}
 use Rattle.algebraic_reduction.specs.Kept.{KeptStep, steps_of, AreKept, a_at, b_at, row_at, column_at}
 
 -- x stands in the list at a place from k on
@@ -44,3 +45,9 @@ pub record IsState (p : ℕ) (K : ChainComplex) (bs : List (List (ℕ × ℕ))) 
   pub placed : (i : ℕ) → i < length ks → (place_at places (a_at ks i) ≡ Some i) × (place_at places (b_at ks i) ≡ Some i)
   pub in_step : (g i : ℕ) → place_at places g ≡ Some i → (i < length ks) × (IsUnpaired (steps_of ks) g → ⊥)
   pub in_none : (g : ℕ) → place_at places g ≡ None → IsUnpaired (steps_of ks) g
+
+-- a later state: the complex is the same, the steps are the old ones and further ones, and an empty boundary stays empty
+pub record GoesOn (p : ℕ) (K K' : ChainComplex) (bs bs' : List (List (ℕ × ℕ))) (ks ks' : List KeptStep) : Type 0 where
+  pub complex : K' ≡ K
+  pub further : AreFurther (steps_of ks) (steps_of ks')
+  pub zeros : (h : ℕ) → ((g : ℕ) → Same p (incidence bs h g) 0) → (g : ℕ) → Same p (incidence bs' h g) 0

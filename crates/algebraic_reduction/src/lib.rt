@@ -10,6 +10,8 @@ mod kept;
 mod laws;
 mod log;
 mod maps;
+mod plan;
+mod reducing;
 mod settling;
 mod side;
 mod starting;

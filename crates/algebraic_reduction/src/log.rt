@@ -6,11 +6,12 @@ ghost use Rattle.field_mod.specs.Moduli.{IsModulus};
 ghost use Rattle.chains.specs.Terms.{coefficient};
 ghost use Rattle.chains.specs.ChainComplex.{IsComplex};
 ghost use Rattle.algebraic_reduction.specs.Reduction.{IsOnLeft, IsUnpaired, single};
-ghost use Rattle.algebraic_reduction.specs.Laws.{AreStepsOf, left_of, project_of, include_of, homotopy_of, IsReduction};
-ghost use Rattle.algebraic_reduction.specs.LogWords.{pairs, IsOneMore};
+ghost use Rattle.algebraic_reduction.specs.Laws.{AreStepsOf, left_of, project_of, include_of, homotopy_of, IsReduction, NothingLeft};
+ghost use Rattle.algebraic_reduction.specs.LogWords.{pairs, IsOneMore, AreFurther};
 
 use crate::descending::project;
 use crate::maps;
+use crate::reducing::reduce_parts;
 use crate::starting::start_parts;
 use crate::stepping::{Parts, place_of, take_pair};
 use chains::{Chain, Complex};
@@ -95,6 +96,17 @@ impl<const P: u16> Log<P> {
     {
         let Log { mut parts, alloc } = self;
         take_pair(&mut parts, alloc, field, a, b)?;
+        Ok(Log { parts, alloc })
+    }
+
+    /// Further steps, until no boundary is left. Where memory is wanting the log is consumed.
+    pub fn reduce_all(self, field: Field<P>) -> Result<Log<P>, AllocError>
+        ensures complex { IfOk result (λ l. l.complex ≡ self.entry.complex) }
+        ensures further { IfOk result (λ l. AreFurther self.entry.steps l.steps) }
+        ensures nothing_left { IfOk result (λ l. NothingLeft P l.complex l.steps) }
+    {
+        let Log { mut parts, alloc } = self;
+        reduce_parts(&mut parts, alloc, field)?;
         Ok(Log { parts, alloc })
     }
 

@@ -5,7 +5,7 @@ ghost use Rattle.chains.specs.ChainComplex.{incidence};
 ghost use Rattle.algebraic_reduction.specs.Reduction.{IsUnpaired, left};
 ghost use Rattle.algebraic_reduction.specs.Kept.{IsKept, steps_of};
 ghost use Rattle.algebraic_reduction.specs.LogWords.{IsOneMore};
-ghost use Rattle.algebraic_reduction.specs.State.{NamesStay, AreCovered, IsState, place_at};
+ghost use Rattle.algebraic_reduction.specs.State.{NamesStay, AreCovered, IsState, GoesOn, place_at};
 
 use crate::clearing::{clear_column, name_row};
 use crate::generators::Generators;
@@ -74,6 +74,8 @@ pub fn take_pair<const P: u16>(
     ensures state { OnOk result (IsState P parts.new.complex parts.new.boundaries.items parts.new.cofaces.items parts.new.standing.items parts.new.places.items parts.new.steps.items) }
     ensures complex { OnOk result (parts.new.complex ≡ parts.old.complex) }
     ensures one_more { OnOk result (IsOneMore (steps_of parts.old.steps.items) (steps_of parts.new.steps.items) a b) }
+    ensures goes { OnOk result (GoesOn P parts.old.complex parts.new.complex parts.old.boundaries.items parts.new.boundaries.items parts.old.steps.items parts.new.steps.items) }
+    ensures taken { OnOk result ((g : ℕ) → Same P (incidence parts.new.boundaries.items b g) 0) }
 {
     let kept = clear_pair(
         alloc,

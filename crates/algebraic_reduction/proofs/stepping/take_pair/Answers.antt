@@ -2,6 +2,7 @@ use Rattle.std.proofs.Common.{arith, ap, ◌∙◌, sym, refl, List, ℕ, [], �
 use Rattle.chains.specs.Terms.{coefficient}
 use Rattle.field_mod.proofs.Table.{two_le}
 use Rattle.algebraic_reduction.proofs.OneMore.{state_short, state_apart, state_after, one_more}
+use Rattle.algebraic_reduction.proofs.Going.{goes_after, taken_after}
 use Rattle.algebraic_reduction.proofs.stepping.take_pair.Goals as goal
 
 pub clear_pair-requires : goal.clear_pair-requires
@@ -25,3 +26,15 @@ returns-clause-state g c =
 
 pub returns-clause-one_more : goal.returns-clause-one_more
 returns-clause-one_more g c = let e = c.in_ok-kept.ensures in one_more c.args.a c.args.b c.args.parts.now.steps.items c.push.new.self.items c.in_ok-kept.kept c.in_ok-push.ensures.items e.step.0 e.step.1
+
+pub returns-clause-goes : goal.returns-clause-goes
+returns-clause-goes g c =
+    let p = c.args.parts.now in
+    let e = c.in_ok-kept.ensures in
+    goes_after g.row.P c.args.a c.args.b p.boundaries.len p.complex c.deref_mut.result.now p.boundaries.items c.clear_pair.new.boundaries _ p.steps.items c.push.new.self.items c.in_ok-kept.kept p.boundaries.ok.0 c.clear_pair.auto.boundaries c.deref_mut.ensures.value e.left (one_more c.args.a c.args.b p.steps.items c.push.new.self.items c.in_ok-kept.kept c.in_ok-push.ensures.items e.step.0 e.step.1)
+
+pub returns-clause-taken : goal.returns-clause-taken
+returns-clause-taken g c =
+    let p = c.args.parts.now in
+    let e = c.in_ok-kept.ensures in
+    taken_after g.row.P c.args.b p.boundaries.len c.deref_mut.result.now p.boundaries.items c.clear_pair.new.boundaries _ c.in_ok-kept.kept p.boundaries.ok.0 c.clear_pair.auto.boundaries c.deref_mut.ensures.value e.step.1 e.left
