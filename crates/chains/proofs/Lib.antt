@@ -1,4 +1,5 @@
 pub mod TermLists
+pub mod Merging
 pub mod Lookup
 pub mod Dotting
 pub mod Summing

@@ -1,12 +1,14 @@
 -- The boundary of a numbered complex: linear, and of generators of one degree more
-use Rattle.std.proofs.Common.{◌≡◌, ℕ, ◌+◌, ◌*◌, ◌<◌, sym, ap, ◌∙◌, arith, ⊎_elim, List, length, get_or}
+use Rattle.std.proofs.Common.{◌≡◌, ℕ, ◌+◌, ◌*◌, ◌<◌, sym, ap, ◌∙◌, arith, ⊎_elim, List, length, get_or, false, true≢false}
+use Rattle.std.specs.Prelude.{nat_lt}
 use Rattle.std.proofs.lemmas.Bool.{cases_eq, cases_lt, lt-ltb}
 use Rattle.field_mod.specs.Sums.{total}
-use Rattle.field_mod.specs.Modular.{IsField}
-use Rattle.field_mod.proofs.Sums.{total-same, total-scale, total-swap, total_same}
-use Rattle.field_mod.proofs.Modular.{same_by, same_refl, same-mul}
-use Rattle.chains.specs.Homology.{IsBoundaryOperator}
+use Rattle.field_mod.specs.Modular.{Same, IsField}
+use Rattle.field_mod.proofs.Sums.{total-same, total-zero, total-scale, total-swap, total_same}
+use Rattle.field_mod.proofs.Modular.{same_by, same_refl, same_trans, same-mul}
+use Rattle.chains.specs.Homology.{IsChain, IsNull, IsCycle, IsBoundaryOperator}
 use Rattle.chains.specs.ChainComplex.{ChainComplex, IsComplex, IsBasisOf, incidence, boundary, system}
+use Rattle.chains.proofs.Dependent.{all_zero}
 use Rattle.chains.proofs.Exchange.{one_length}
 
 -- the boundary is linear, not only modulo p
@@ -38,3 +40,39 @@ is_boundary_operator p K c = record {
 
 pub one_length_numbered : (p k : ℕ) (K : ChainComplex) (zs ws : List (List (ℕ × ℕ))) → IsField p → IsComplex p K → IsBasisOf p K k zs → IsBasisOf p K k ws → length zs ≡ length ws
 one_length_numbered p k K zs ws field c bz bw = one_length p k _ _ (system K) _ _ field (is_boundary_operator p K c) bz bw
+
+-- ---- boundaries of chains and of boundaries
+
+-- the boundary of a chain of degree k + 1 is a chain of degree k
+pub chain-boundary : (p k : ℕ) (K : ChainComplex) (c : ℕ → ℕ) → IsComplex p K → IsChain p (system K) (k + 1) c → IsChain p (system K) k (boundary K.boundaries c)
+chain-boundary p k K c b h = record {
+  on = λ g off. zero_at g (λ j l n. let q = (degree_above p K b j g l n).0 in absurd (off_is_past g off (omega (arith, b.sizes))));
+  of_degree = λ g d. zero_at g (λ j l n. h.of_degree j (λ e. d (one_less _ k (sym (degree_above p K b j g l n).1 ∙ e))));
+}
+  where
+    zero_at : (g : ℕ) → ((j : ℕ) → j < length K.boundaries → (incidence K.boundaries j g ≡ 0 → ⊥) → Same p (c j) 0) → Same p (boundary K.boundaries c g) 0
+    zero_at g z = same_trans
+        (total_same p (length K.boundaries) (λ j. c j * incidence K.boundaries j g) (λ j. 0) (λ j l. ⊎_elim
+        (λ e. same_by p 0 0 _ _ (rw e (omega arith)))
+        (λ n. same_trans (same-mul (z j l n) (same_refl p (incidence K.boundaries j g))) (same_by p 0 0 _ _ (omega arith)))
+        (cases_eq (incidence K.boundaries j g) 0)))
+        (same_by p 0 0 _ _ (omega (arith, total-zero (length K.boundaries))))
+
+    off_is_past : (g : ℕ) → nat_lt g (length K.boundaries) ≡ false → g < length K.boundaries → ⊥
+    off_is_past g off l = true≢false (sym (lt-ltb g (length K.boundaries) l) ∙ off)
+
+    one_less : (a b : ℕ) → a + 1 ≡ b + 1 → a ≡ b
+    one_less a b e = omega arith
+
+-- the boundary of a boundary is 0
+pub boundary-boundary : (p : ℕ) (K : ChainComplex) (c : ℕ → ℕ) (g : ℕ) → IsComplex p K → Same p (boundary K.boundaries (boundary K.boundaries c) g) 0
+boundary-boundary p K c g b = same_trans
+    (same_by p 0 0 _ _ (ap (λ v. v + p * 0) (boundary-combination K.boundaries (length K.boundaries) c (incidence K.boundaries) g)))
+    (all_zero p (length K.boundaries) c (λ h. boundary K.boundaries (incidence K.boundaries h) g) (λ h l. b.squares_to_zero h g l))
+
+-- a chain of degree k that is null is a cycle
+pub cycle_of_null : (p k : ℕ) (K : ChainComplex) (z : ℕ → ℕ) → IsComplex p K → IsChain p (system K) k z → IsNull p (system K) k z → IsCycle p (system K) k z
+cycle_of_null p k K z b h n = record {
+  chain = h;
+  closed = λ g o. same_trans ((is_boundary_operator p K b).lowers z (boundary K.boundaries n.filling) g o (λ j oj _. n.fills j oj)) (boundary-boundary p K n.filling g b);
+}

@@ -1,7 +1,7 @@
 -- Laws of homology modulo a prime. Each is stated for generators that are numbers; the lemmas behind them hold for any kind.
 use Rattle.std.specs.Prelude.{◌≡◌, ℕ, List, length}
 use Rattle.field_mod.specs.Modular.{IsField}
-use Rattle.chains.specs.Homology.{System, IsBoundaryOperator, IsChain, IsBoundaryOf, IsNull, IsBasis}
+use Rattle.chains.specs.Homology.{System, IsBoundaryOperator, IsChain, IsBoundaryOf, IsNull, IsCycle, IsBasis}
 use Rattle.chains.specs.ChainComplex.{ChainComplex, IsComplex, IsBasisOf, system}
 
 -- the boundary of a numbered complex is linear and lowers degrees by one
@@ -25,3 +25,9 @@ abbrev pub FillingsAreOfNextDegree : Type 0
 FillingsAreOfNextDegree =
     (p k : ℕ) (K : System ℕ) (z c : ℕ → ℕ)
     → IsBoundaryOperator p K → IsChain p K k z → IsBoundaryOf p K z c → IsNull p K k z
+
+-- a null chain of degree k of a numbered complex is a cycle: the boundary of a boundary is 0
+abbrev pub NullChainsAreCycles : Type 0
+NullChainsAreCycles =
+    (p k : ℕ) (K : ChainComplex) (z : ℕ → ℕ)
+    → IsComplex p K → IsChain p (system K) k z → IsNull p (system K) k z → IsCycle p (system K) k z

@@ -8,7 +8,10 @@ mod terms;
 
 pub use chain::Chain;
 pub use complex::{Complex, ComplexFault};
-pub use laws::{bases_have_one_length, boundaries_are_operators, fillings_are_of_next_degree};
+pub use laws::{
+    bases_have_one_length, boundaries_are_operators, fillings_are_of_next_degree,
+    null_chains_are_cycles,
+};
 
 #[cfg(test)]
 mod tests;

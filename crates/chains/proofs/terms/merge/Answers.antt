@@ -1,6 +1,6 @@
 use Rattle.std.proofs.Common.{arith}
 use Rattle.field_mod.proofs.Table.{two_le}
-use Rattle.chains.proofs.TermLists.{merge_left_at, merge_right_at, merge_both_at, merge_end_at}
+use Rattle.chains.proofs.Merging.{merge_left_at, merge_right_at, merge_both_at, merge_end_at}
 use Rattle.chains.proofs.terms.merge.Goals as goal
 
 pub both-preserved-then-left-i : goal.both-preserved-then-left-i

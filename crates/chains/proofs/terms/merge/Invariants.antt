@@ -1,5 +1,5 @@
 use Rattle.std.proofs.Common.{◌+◌, ◌-◌, ◌≤◌, ◌<◌, drop, length}
-use Rattle.chains.proofs.TermLists.{Merging}
+use Rattle.chains.proofs.Merging.{Merging}
 use Rattle.chains.proofs.terms.merge.Given as goal
 
 abbrev pub invariant-both : goal.invariant-both
