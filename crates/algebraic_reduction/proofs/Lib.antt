@@ -17,3 +17,4 @@ pub mod MapSteps
 pub mod DueSteps
 pub mod MapResults
 pub mod Going
+pub mod Dimension

@@ -1,7 +1,7 @@
 -- What the maps of a list of steps are to the complex: a reduction of it; and what follows where no boundary is left.
 -- (Kaczynski, Mischaikow, Mrozek: Computational Homology, Springer 2004, sections 4.3 and 4.4)
 use Rattle.std.specs.Prelude.{◌≡◌, ◌≢◌, ℕ, ◌+◌, ◌*◌, ◌<◌, ◌≤◌, List, [], ◌∷◌, length, slice_index}
-use Rattle.field_mod.specs.Modular.{Same}
+use Rattle.field_mod.specs.Modular.{Same, IsField}
 use Rattle.chains.specs.Homology.{IsChain, IsBasis}
 use Rattle.chains.specs.ChainComplex.{ChainComplex, IsComplex, incidence, boundary, system}
 use Rattle.algebraic_reduction.specs.Reduction.{boundary_by, single, Step, AreSteps, left_all, project_all, include_all, homotopy_all, IsUnpaired, IsOnLeft}
@@ -83,3 +83,10 @@ LeftGeneratorsAreBasis =
     (p k m : ℕ) (K : ChainComplex) (ss : List Step) (at : ℕ → ℕ)
     → 2 ≤ p → IsComplex p K → AreStepsOf p K ss → NothingLeft p K ss → IsLeft K k ss m at
     → IsBasis p (system K) k m (λ i. include_of p K ss (single (at i)))
+
+-- and so their number is the dimension: each basis in degree k has as many chains
+abbrev pub LeftGeneratorsAreDimension : Type 0
+LeftGeneratorsAreDimension =
+    (p k m n : ℕ) (K : ChainComplex) (ss : List Step) (at : ℕ → ℕ) (ws : ℕ → ℕ → ℕ)
+    → IsField p → IsComplex p K → AreStepsOf p K ss → NothingLeft p K ss → IsLeft K k ss m at
+    → IsBasis p (system K) k n ws → n ≡ m

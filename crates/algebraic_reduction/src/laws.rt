@@ -1,5 +1,5 @@
 //! Laws over the definitions alone, each the contract of a function that does nothing.
-ghost use Rattle.algebraic_reduction.specs.Laws.{StepsAreReductions, LeftGeneratorsAreBasis};
+ghost use Rattle.algebraic_reduction.specs.Laws.{StepsAreReductions, LeftGeneratorsAreBasis, LeftGeneratorsAreDimension};
 
 /// A list of steps on a complex reduces it.
 #[tactic(auto, using(crate::proofs::Reductions::steps_are_reductions))]
@@ -11,4 +11,10 @@ pub fn steps_are_reductions()
 #[tactic(auto, using(crate::proofs::LeftBasis::left_generators))]
 pub fn left_generators_are_basis()
     ensures { LeftGeneratorsAreBasis }
+{}
+
+/// The number of the generators that are left is the dimension of homology, degree by degree.
+#[tactic(auto, using(crate::proofs::Dimension::left_dimension))]
+pub fn left_generators_are_dimension()
+    ensures { LeftGeneratorsAreDimension }
 {}

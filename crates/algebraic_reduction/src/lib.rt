@@ -17,5 +17,5 @@ mod side;
 mod starting;
 mod stepping;
 
-pub use laws::{left_generators_are_basis, steps_are_reductions};
+pub use laws::{left_generators_are_basis, left_generators_are_dimension, steps_are_reductions};
 pub use log::Log;
