@@ -1,0 +1,16 @@
+use Rattle.std.proofs.Common.{arith, ap, ◌∙◌, sym, refl, List, ℕ, [], ◌∷◌, ◌++◌}
+use Rattle.std.proofs.lemmas.List.{get_or_default}
+use Rattle.algebraic_reduction.proofs.Naming.{naming_push, naming_skip}
+use Rattle.algebraic_reduction.proofs.clearing.name_row.Goals as goal
+use Rattle.algebraic_reduction.proofs.clearing.name_row.Goals.{then-place-lists+then-coefficient-eq0+in_ok-push, else-place-lists, else-place-lists-via-then-place-lists+else-coefficient-eq0, else-place-lists-via-else-place-lists}
+
+pub loop-at-preserved : goal.loop-at-preserved
+loop-at-preserved g c =
+    elim c.if-place-lists.branch [
+      | then-place-lists+then-coefficient-eq0+in_ok-push w ↦
+          naming_push _ _ _ _ _ _ _ _ _ c.loop-at.invariant c.loop-at-test.true refl w.if-place-lists.true (sym w.coefficient.ensures.value ∙ w.if-coefficient-eq0.true) (w.in_ok-push.ensures.ok ∙ ap (λ (xs : List ℕ). xs ++ c.args.generator ∷ []) (get_or_default _ _ _ _ w.if-place-lists.true)) w.lists-is
+      | else-place-lists w ↦ elim w.else-place-lists.branch [
+        | else-place-lists-via-then-place-lists+else-coefficient-eq0 w' ↦ rw w.lists-is (naming_skip _ _ _ _ _ _ c.loop-at.invariant c.loop-at-test.true (λ l e. w'.if-coefficient-eq0.false (w'.coefficient.ensures.value ∙ e)))
+        | else-place-lists-via-else-place-lists w' ↦ rw w.lists-is (naming_skip _ _ _ _ _ _ c.loop-at.invariant c.loop-at-test.true (λ l e. let past = w'.if-place-lists.false in absurd (omega arith)))
+      ]
+    ]

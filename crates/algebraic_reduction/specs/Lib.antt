@@ -1,0 +1,7 @@
+pub mod Kept
+pub mod Laws
+pub mod LogWords
+pub mod Maps
+pub mod Reduction
+pub mod Sides
+pub mod State

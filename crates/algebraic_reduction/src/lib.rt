@@ -1,0 +1,21 @@
+//! The algebraic reduction of a chain complex by pairs of generators: the log of the pairs, with projection, inclusion and
+//! homotopy of all steps.
+#![tactic(auto)]
+
+mod clearing;
+mod descending;
+mod due;
+mod generators;
+mod kept;
+mod laws;
+mod log;
+mod maps;
+mod plan;
+mod reducing;
+mod settling;
+mod side;
+mod starting;
+mod stepping;
+
+pub use laws::{left_generators_are_basis, left_generators_are_dimension, steps_are_reductions};
+pub use log::Log;

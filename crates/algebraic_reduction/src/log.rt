@@ -1,0 +1,162 @@
+//! The log of reduced pairs.
+ghost use Rattle.std.specs.Prelude.{◌≡◌, ◌≢◌, ℕ, ◌+◌, ◌*◌, ◌%◌, ◌<◌, ◌≤◌, ◌↔◌, List, [], length, IfOk, IsTrue, Some, slice_get};
+ghost use Rattle.field_mod.specs.Sums.{total};
+ghost use Rattle.field_mod.specs.Modular.{Same, NonZero};
+ghost use Rattle.field_mod.specs.Moduli.{IsModulus};
+ghost use Rattle.chains.specs.Terms.{coefficient};
+ghost use Rattle.chains.specs.ChainComplex.{IsComplex};
+ghost use Rattle.algebraic_reduction.specs.Reduction.{IsOnLeft, IsUnpaired, single};
+ghost use Rattle.algebraic_reduction.specs.Laws.{AreStepsOf, left_of, project_of, include_of, homotopy_of, IsReduction, NothingLeft};
+ghost use Rattle.algebraic_reduction.specs.LogWords.{pairs, IsOneMore, AreFurther};
+
+use crate::descending::project;
+use crate::maps;
+use crate::reducing::reduce_parts;
+use crate::starting::start_parts;
+use crate::stepping::{Parts, place_of, take_pair};
+use chains::{Chain, Complex};
+use field_mod::Field;
+use std::alloc::{AllocError, Global};
+use std::marker::Model;
+
+/// A complex with the list of the pairs by which it was reduced. It is seen as the complex, as it was at the start, and the
+/// list of the steps.
+#[derive(Drop)]
+pub struct Log<const P: u16> {
+    parts: Parts<P>,
+    alloc: Global,
+}
+
+impl<const P: u16> Model for Log<P> {
+    ghost use Rattle.algebraic_reduction.specs.Kept.{steps_of};
+    ghost use Rattle.algebraic_reduction.specs.State.{IsState};
+    ghost use Rattle.algebraic_reduction.specs.LogWords.{Reduced};
+
+    ghost Value = { Reduced };
+
+    ghost view = { λ l. record { complex = l.parts.complex; steps = steps_of l.parts.steps.items } };
+
+    ghost invariant = { λ l. IsState P l.parts.complex l.parts.boundaries.items l.parts.cofaces.items l.parts.standing.items l.parts.places.items l.parts.steps.items };
+}
+
+impl<const P: u16> Log<P> {
+    /// The log of a complex, without steps.
+    pub fn start(alloc: Global, complex: Complex<P>) -> Result<Log<P>, AllocError>
+        ensures { IfOk result (λ l. (l.complex ≡ complex.entry) × (l.steps ≡ [])) }
+    {
+        let parts = start_parts(alloc, complex)?;
+        Ok(Log { parts, alloc })
+    }
+
+    /// Whether a generator of the complex is in no step.
+    pub fn alive(&self, generator: u32) -> bool
+        requires { generator < length self.now.complex.boundaries }
+        ensures { IsTrue result ↔ IsUnpaired self.now.steps generator }
+    {
+        place_of(&self.parts.places, generator).is_none()
+    }
+
+    /// What the steps leave of the boundary of a generator that is in none.
+    pub fn left_boundary(&self, generator: u32) -> &Chain<P>
+        requires inside { generator < length self.now.complex.boundaries }
+        requires alive { IsUnpaired self.now.steps generator }
+        ensures { (g : ℕ) → Same P (coefficient result.now g) (left_of P self.now.complex self.now.steps generator g) }
+    {
+        &self.parts.boundaries[generator as usize]
+    }
+
+    /// How many steps there are. Its clauses hand out what a log is: a complex, a list of steps that may be made on it, and
+    /// so a reduction of it.
+    pub fn step_count(&self) -> u32
+        ensures count { result ≡ length self.now.steps }
+        ensures complex { IsComplex P self.now.complex }
+        ensures steps { AreStepsOf P self.now.complex self.now.steps }
+        ensures reduction { IsModulus P → IsReduction P self.now.complex self.now.steps }
+    {
+        self.parts.steps.len() as u32
+    }
+
+    /// The pair of the step at a place below the count, a and then b.
+    pub fn step(&self, place: u32) -> (u32, u32)
+        requires { place < length self.now.steps }
+        ensures { slice_get (pairs self.now.steps) place ≡ Some result }
+    {
+        let step = &self.parts.steps[place as usize];
+        (step.a(), step.b())
+    }
+
+    /// One more step, by the pair of a and b, which are in none and whose incidence number in what is left is not 0. Where
+    /// memory is wanting the log is consumed.
+    pub fn reduce_pair(self, field: Field<P>, a: u32, b: u32) -> Result<Log<P>, AllocError>
+        requires a_alive { (a < length self.complex.boundaries) × IsUnpaired self.steps a }
+        requires b_alive { (b < length self.complex.boundaries) × IsUnpaired self.steps b }
+        requires incident { NonZero P (left_of P self.complex self.steps b a) }
+        ensures complex { IfOk result (λ l. l.complex ≡ self.entry.complex) }
+        ensures one_more { IfOk result (λ l. IsOneMore self.entry.steps l.steps a b) }
+    {
+        let Log { mut parts, alloc } = self;
+        take_pair(&mut parts, alloc, field, a, b)?;
+        Ok(Log { parts, alloc })
+    }
+
+    /// Further steps, until no boundary is left. Where memory is wanting the log is consumed.
+    pub fn reduce_all(self, field: Field<P>) -> Result<Log<P>, AllocError>
+        ensures complex { IfOk result (λ l. l.complex ≡ self.entry.complex) }
+        ensures further { IfOk result (λ l. AreFurther self.entry.steps l.steps) }
+        ensures nothing_left { IfOk result (λ l. NothingLeft P l.complex l.steps) }
+    {
+        let Log { mut parts, alloc } = self;
+        reduce_parts(&mut parts, alloc, field)?;
+        Ok(Log { parts, alloc })
+    }
+
+    /// The projection of a chain to what is left. Its cost is that of the steps that the chain meets.
+    pub fn project(
+        &self,
+        alloc: Global,
+        field: Field<P>,
+        chain: &Chain<P>,
+    ) -> Result<Chain<P>, AllocError>
+        ensures { IfOk result (λ c. (g : ℕ) → Same P (coefficient c g) (project_of P self.now.complex self.now.steps (coefficient chain.now) g)) }
+    {
+        project(&self.parts, alloc, field, chain)
+    }
+
+    /// The inclusion of a chain on what is left, at the cost of the steps in whose columns it stands.
+    pub fn include(
+        &self,
+        alloc: Global,
+        field: Field<P>,
+        chain: &Chain<P>,
+    ) -> Result<Chain<P>, AllocError>
+        requires { IsOnLeft P self.now.steps (coefficient chain.now) }
+        ensures { IfOk result (λ c. (g : ℕ) → Same P (coefficient c g) (include_of P self.now.complex self.now.steps (coefficient chain.now) g)) }
+    {
+        maps::include(&self.parts, alloc, field, chain)
+    }
+
+    /// The homotopy of a chain, at the cost of the steps that it meets.
+    pub fn homotopy(
+        &self,
+        alloc: Global,
+        field: Field<P>,
+        chain: &Chain<P>,
+    ) -> Result<Chain<P>, AllocError>
+        ensures { IfOk result (λ c. (g : ℕ) → Same P (coefficient c g) (homotopy_of P self.now.complex self.now.steps (coefficient chain.now) g)) }
+    {
+        maps::homotopy(&self.parts, alloc, field, chain)
+    }
+
+    /// The transposed projection of a chain: the chain whose coefficient at a generator is the product of the given one with
+    /// the projection of the generator. Its cost is that of the steps in whose rows it stands.
+    pub fn transposed_projection(
+        &self,
+        alloc: Global,
+        field: Field<P>,
+        chain: &Chain<P>,
+    ) -> Result<Chain<P>, AllocError>
+        ensures { IfOk result (λ c. (g : ℕ) → g < length self.now.complex.boundaries → Same P (coefficient c g) (total (length self.now.complex.boundaries) (λ h. coefficient chain.now h * project_of P self.now.complex self.now.steps (single g) h))) }
+    {
+        maps::transposed_projection(&self.parts, alloc, field, chain)
+    }
+}
