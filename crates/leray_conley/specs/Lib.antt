@@ -1,0 +1,6 @@
+pub mod Inverses
+pub mod Kernels
+pub mod Products
+pub mod Ranks
+pub mod Splitting
+pub mod Tables

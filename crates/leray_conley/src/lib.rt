@@ -1,0 +1,8 @@
+//! Matrices over a prime field and the Leray splitting.
+#![tactic(auto)]
+
+mod laws;
+mod matrix;
+
+pub use laws::{inverse_or_kernel, right_inverses_are_left, splitting_ranks_agree, splittings_exist};
+pub use matrix::Matrix;
