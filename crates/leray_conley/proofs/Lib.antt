@@ -2,6 +2,7 @@ pub mod Algebra
 pub mod Blocks
 pub mod Complements
 pub mod Existence
+pub mod Filling
 pub mod Inverses
 pub mod Similar
 pub mod Solutions

@@ -16,3 +16,9 @@ pub record IsTable (p : ℕ) (m : Table) : Type 0 where
   pub count : length m.entries ≡ m.rows * m.columns
   pub bound : m.rows * m.columns ≤ 16777216
   pub below : (k : ℕ) → k < length m.entries → slice_index m.entries k < p
+
+-- m has these sizes, and the entries of the function a
+pub record HasEntries (rows columns : ℕ) (a : ℕ → ℕ → ℕ) (m : Table) : Type 0 where
+  pub has_rows : m.rows ≡ rows
+  pub has_columns : m.columns ≡ columns
+  pub at : (i j : ℕ) → i < rows → j < columns → entry m i j ≡ a i j

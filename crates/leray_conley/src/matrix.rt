@@ -1,5 +1,5 @@
 //! Matrices over a prime field: their sizes, entries, traces and products.
-ghost use Rattle.std.specs.Prelude.{◌≡◌, ℕ, ◌+◌, ◌*◌, ◌%◌, ◌<◌, ◌≤◌, length, slice_index, vec_len, IfOk};
+ghost use Rattle.std.specs.Prelude.{◌≡◌, ℕ, ◌+◌, ◌*◌, ◌%◌, ◌<◌, ◌≤◌, length, slice_index, vec_len};
 ghost use Rattle.leray_conley.specs.Tables.{IsTable, entry};
 ghost use Rattle.leray_conley.specs.Products.{trace};
 
@@ -80,5 +80,18 @@ impl<const P: u16> Matrix<P> {
             sum = f.add(sum, self.entry(i, i));
         }
         sum
+    }
+
+    /// The entries of row `i`.
+    pub(crate) fn row(&self, i: u32) -> &[u16]
+        requires { i < self.now.rows }
+        ensures len { length result.now ≡ self.now.columns }
+        ensures bound { length result.now ≤ 16777216 }
+        ensures value { (j : ℕ) → j < self.now.columns → slice_index result.now j ≡ entry self.now i j }
+        ensures below { (j : ℕ) → j < self.now.columns → slice_index result.now j < P }
+    {
+        let start = (i * self.columns) as usize;
+        let end = start + self.columns as usize;
+        &self.entries[start..end]
     }
 }

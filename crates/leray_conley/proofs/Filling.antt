@@ -1,0 +1,57 @@
+-- Lists that are filled row by row
+use Rattle.std.proofs.Common.{◌≡◌, ℕ, ◌+◌, ◌*◌, ◌/◌, ◌%◌, ◌<◌, ◌≤◌, List, [], ◌∷◌, ◌++◌, length, get_or, refl, sym, ap, ◌∙◌, arith, ⊎_elim}
+use Rattle.std.proofs.lemmas.Bool.{cases_lt}
+use Rattle.std.proofs.lemmas.List.{get_or_append_left, get_or_push, length_push}
+use Rattle.std.proofs.lemmas.Nat.{div-mul-add, mod-mul-add, mul-add-lt}
+use Rattle.field_mod.proofs.Sums.{total-same}
+use Rattle.leray_conley.specs.Products.{product, transpose}
+use Rattle.leray_conley.specs.Tables.{Table, HasEntries}
+
+-- es holds the first k entries of the function a, by rows of so many columns, and they are below p
+pub record IsFilled (p columns k : ℕ) (a : ℕ → ℕ → ℕ) (es : List ℕ) : Type 0 where
+  pub count : length es ≡ k
+  pub cells : (q : ℕ) → q < k → get_or es q 0 ≡ a (q / columns) (q % columns)
+  pub below : (q : ℕ) → q < k → get_or es q 0 < p
+
+pub filled_none : (p columns : ℕ) (a : ℕ → ℕ → ℕ) → IsFilled p columns 0 a []
+filled_none p columns a = record { count = refl; cells = λ q l. absurd (omega arith); below = λ q l. absurd (omega arith) }
+
+-- what is at q after a push
+pushed_at : (es : List ℕ) (x k q : ℕ) (P : ℕ → Type 0) → length es ≡ k → q < k + 1 → (q < k → P (get_or es q 0)) → (q ≡ k → P x) → P (get_or (es ++ x ∷ []) q 0)
+pushed_at es x k q P e l f g = ⊎_elim
+    (λ m. let e1 : get_or (es ++ x ∷ []) q 0 ≡ get_or es q 0 = get_or_append_left es (x ∷ []) 0 q (omega arith) in rw e1 (f m))
+    (λ m. let e2 : get_or (es ++ x ∷ []) q 0 ≡ x = get_or_push es x 0 q (omega arith) in rw e2 (g (omega arith)))
+    (cases_lt q k)
+
+pub filled_more : {p columns k : ℕ} {a : ℕ → ℕ → ℕ} {es : List ℕ} (x : ℕ) → IsFilled p columns k a es → x ≡ a (k / columns) (k % columns) → x < p → IsFilled p columns (k + 1) a (es ++ x ∷ [])
+filled_more {p} {columns} {k} {a} {es} x h e b = record {
+  count = let n = h.count in omega (arith, length_push es x);
+  cells = λ q l. pushed_at es x k q (λ y. y ≡ a (q / columns) (q % columns)) h.count l (h.cells q) (λ (m : q ≡ k). rw m e);
+  below = λ q l. pushed_at es x k q (λ y. y < p) h.count l (h.below q) (λ m. b);
+}
+
+pub filled_entry : {p columns k : ℕ} {a : ℕ → ℕ → ℕ} {es : List ℕ} (rows i j : ℕ) → IsFilled p columns k a es → k ≡ rows * columns → i < rows → j < columns → get_or es (i * columns + j) 0 ≡ a i j
+filled_entry {p} {columns} {k} {a} {es} rows i j h e li lj =
+    let l = mul-add-lt i columns j rows li lj in
+    let d = div-mul-add i columns j lj in
+    let m = mod-mul-add i columns j lj in
+    h.cells (i * columns + j) (omega arith) ∙ ap (λ (v : ℕ). a v ((i * columns + j) % columns)) d ∙ ap (a i) m
+
+-- the matrix that is made of such a list
+pub filled_matrix : {p k c : ℕ} {a : ℕ → ℕ → ℕ} {es : List ℕ} (m : Table) (rows columns : ℕ) → IsFilled p c k a es → c ≡ columns → k ≡ rows * c → m.rows ≡ rows → m.columns ≡ c → m.entries ≡ es → HasEntries rows columns a m
+filled_matrix {p} {k} {c} {a} {es} m rows columns h ec ek er em ee = record {
+  has_rows = er;
+  has_columns = em ∙ ec;
+  at = λ i j li lj. ap (λ (v : ℕ). get_or m.entries (i * v + j) 0) em ∙ ap (λ (v : List ℕ). get_or v (i * c + j) 0) ee ∙ filled_entry rows i j h ek li (omega arith);
+}
+
+pub map_entries : {rows columns : ℕ} {a : ℕ → ℕ → ℕ} {m : Table} (b : ℕ → ℕ → ℕ) → HasEntries rows columns a m → ((i j : ℕ) → i < rows → j < columns → a i j ≡ b i j) → HasEntries rows columns b m
+map_entries b h e = record { has_rows = h.has_rows; has_columns = h.has_columns; at = λ i j li lj. h.at i j li lj ∙ e i j li lj }
+
+-- the same matrix, with its number of columns by another name
+pub resized : {rows columns n : ℕ} {a : ℕ → ℕ → ℕ} {m : Table} → HasEntries rows columns a m → columns ≡ n → HasEntries rows n a m
+resized h e = record { has_rows = h.has_rows; has_columns = h.has_columns ∙ e; at = λ i j li lj. h.at i j li (omega arith) }
+
+-- a product with a transpose, where the transpose is known
+pub product_entries : (p k : ℕ) (a t b : ℕ → ℕ → ℕ) (i j : ℕ) → ((l : ℕ) → l < k → t j l ≡ transpose b j l) → product k a (transpose t) i j % p ≡ product k a b i j % p
+product_entries p k a t b i j h = ap (λ v. v % p) (total-same k (λ l. a i l * t j l) (λ l. a i l * b l j) (λ l m. ap (λ v. a i l * v) (h l m)))
