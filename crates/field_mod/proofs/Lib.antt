@@ -1,0 +1,3 @@
+pub mod Modular
+pub mod Sums
+pub mod Table
