@@ -4,6 +4,7 @@
 mod laws;
 mod matrix;
 mod products;
+mod row;
 
 pub use laws::{inverse_or_kernel, right_inverses_are_left, splitting_ranks_agree, splittings_exist};
 pub use matrix::Matrix;
