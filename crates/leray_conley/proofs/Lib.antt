@@ -1,6 +1,7 @@
 pub mod Algebra
 pub mod Blocks
 pub mod Complements
+pub mod Echelons
 pub mod Existence
 pub mod Filling
 pub mod Inverses

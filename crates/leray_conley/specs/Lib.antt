@@ -1,3 +1,4 @@
+pub mod Echelons
 pub mod Inverses
 pub mod Kernels
 pub mod Products

@@ -1,6 +1,7 @@
 //! Matrices over a prime field and the Leray splitting.
 #![tactic(auto)]
 
+mod echelon;
 mod laws;
 mod matrix;
 mod products;

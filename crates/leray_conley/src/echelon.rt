@@ -1,0 +1,80 @@
+//! Gauss-Jordan elimination, one row after the other.
+ghost use Rattle.std.specs.Prelude.{◌≡◌, ℕ, ◌+◌, ◌-◌, ◌*◌, ◌%◌, ◌<◌, ◌≤◌, [], length, slice_index, slice_index_or, OnOk};
+ghost use Rattle.field_mod.specs.Modular.{Same};
+ghost use Rattle.leray_conley.specs.Echelons.{HasEchelon, IsExtended, along, cell};
+ghost use Rattle.leray_conley.specs.Kernels.{IsInKernel};
+
+use std::alloc::{AllocError, Global};
+
+use field_mod::Field;
+
+use crate::row::Row;
+
+/// Rows in reduced form: row k has its first entry that is not 0 in column `pivots[k]`, it is 1, and the other rows are
+/// 0 there.
+#[derive(Drop)]
+pub struct Echelon<const P: u16> {
+    pub rows: Vec<Row<P>>,
+    pub pivots: Vec<usize>,
+}
+
+/// Subtracts from a row what it has along the rows in reduced form.
+fn clear_row<const P: u16>(f: Field<P>, echelon: &Echelon<P>, row: &mut Row<P>)
+    requires form { HasEchelon P (length row.old) echelon.now.rows.items echelon.now.pivots.items }
+    ensures len { length row.new ≡ length row.old }
+    ensures cleared { (k : ℕ) → k < length echelon.now.rows.items → Same P (slice_index row.new (slice_index echelon.now.pivots.items k)) 0 }
+    ensures kernel { (v : ℕ → ℕ) → IsInKernel P (length echelon.now.rows.items) (length row.old) (cell echelon.now.rows.items) v
+        → Same P (along (length row.old) (slice_index row.new) v) (along (length row.old) (slice_index row.old) v) }
+{
+    for k in 0..echelon.rows.len() {
+        let by = f.neg(row.entry(echelon.pivots[k]));
+        row.add_scaled(by, &echelon.rows[k]);
+    }
+}
+
+/// Subtracts a row from others so that they are 0 in column `c`, where that row is 1.
+fn clear_column<const P: u16>(f: Field<P>, rows: &mut Vec<Row<P>>, c: usize, row: &Row<P>)
+    requires widths { (k : ℕ) → k < length rows.old.items → length (slice_index_or rows.old.items k []) ≡ length row.now }
+    requires column { c < length row.now }
+    ensures len { length rows.new.items ≡ length rows.old.items }
+    ensures widths { (k : ℕ) → k < length rows.old.items → length (slice_index_or rows.new.items k []) ≡ length row.now }
+    ensures value { (k j : ℕ) → k < length rows.old.items → j < length row.now
+        → cell rows.new.items k j ≡ (cell rows.old.items k j + (P - cell rows.old.items k c) % P * slice_index row.now j) % P }
+{
+    for k in 0..rows.len() {
+        let other = &mut rows[k];
+        let by = f.neg(other.entry(c));
+        other.add_scaled(by, row);
+    }
+}
+
+impl<const P: u16> Echelon<P> {
+    /// No rows.
+    pub fn new(alloc: Global) -> Echelon<P>
+        ensures rows { result.rows.items ≡ [] }
+        ensures pivots { result.pivots.items ≡ [] }
+    {
+        Echelon {
+            rows: Vec::new(alloc),
+            pivots: Vec::new(alloc),
+        }
+    }
+
+    /// Takes one more row in.
+    pub fn insert(&mut self, f: Field<P>, row: Row<P>) -> Result<(), AllocError>
+        requires form { HasEchelon P (length row) self.old.rows.items self.old.pivots.items }
+        ensures form { OnOk result (HasEchelon P (length row.entry) self.new.rows.items self.new.pivots.items) }
+        ensures kernel { OnOk result (IsExtended P (length row.entry) (length self.old.rows.items) (length self.new.rows.items)
+            (cell self.old.rows.items) (slice_index row.entry) (cell self.new.rows.items)) }
+    {
+        let mut row = row;
+        clear_row(f, self, &mut row);
+        if let Some(c) = row.leading() {
+            row.scale(f.inv(row.entry(c)));
+            clear_column(f, &mut self.rows, c, &row);
+            self.rows.push(row)?;
+            self.pivots.push(c)?;
+        }
+        Ok(())
+    }
+}
