@@ -36,6 +36,12 @@ added_at p a b c d by e f = same_trans (exact e) (same_trans (same_mod p (a + by
 pub cleared_at : (p y z by : ℕ) → y < p → by ≡ (p - y) % p → y ≡ z → Same p (by + z) 0
 cleared_at p y z by l e f = same_trans (exact (ap (λ (x : ℕ). by + x) (sym f) ∙ ap (λ (x : ℕ). x + y) e)) (neg_cleared p y l)
 
+-- the negative that the field gives
+pub by_minus : (p y z by : ℕ) → y < p → by ≡ (p - y) % p → y ≡ z → Same p by (minus p z)
+by_minus p y z by l e f =
+    let o = neg_cancel p y (omega arith) in
+    same_trans (exact e) (same_trans (same_mod p (p - y)) (same_trans (same_by p y 1 (p - y) ((p - 1) * y) (omega arith)) (exact (ap (minus p) f))))
+
 module _ (p n : ℕ) where
   -- a row, and the sum of it and a multiple of another
   pub along-add : (q u w v : ℕ → ℕ) (c : ℕ) → ((j : ℕ) → j < n → Same p (u j) (q j + c * w j)) → Same p (along n u v) (along n q v + c * along n w v)

@@ -4,6 +4,7 @@ pub mod Complements
 pub mod Echelons
 pub mod Existence
 pub mod Filling
+pub mod Insertions
 pub mod Inverses
 pub mod Similar
 pub mod Solutions

@@ -1,6 +1,6 @@
 //! Gauss-Jordan elimination, one row after the other.
 ghost use Rattle.std.specs.Prelude.{◌≡◌, ℕ, ◌+◌, ◌-◌, ◌*◌, ◌%◌, ◌<◌, ◌≤◌, [], length, slice_index, slice_index_or, OnOk};
-ghost use Rattle.field_mod.specs.Modular.{Same};
+ghost use Rattle.field_mod.specs.Modular.{Same, minus};
 ghost use Rattle.leray_conley.specs.Echelons.{HasEchelon, IsExtended, along, cell};
 ghost use Rattle.leray_conley.specs.Kernels.{IsInKernel};
 
@@ -39,7 +39,7 @@ fn clear_column<const P: u16>(f: Field<P>, rows: &mut Vec<Row<P>>, c: usize, row
     ensures len { length rows.new.items ≡ length rows.old.items }
     ensures widths { (k : ℕ) → k < length rows.old.items → length (slice_index_or rows.new.items k []) ≡ length row.now }
     ensures value { (k j : ℕ) → k < length rows.old.items → j < length row.now
-        → cell rows.new.items k j ≡ (cell rows.old.items k j + (P - cell rows.old.items k c) % P * slice_index row.now j) % P }
+        → Same P (cell rows.new.items k j) (cell rows.old.items k j + minus P (cell rows.old.items k c) * slice_index row.now j) }
 {
     for k in 0..rows.len() {
         let other = &mut rows[k];

@@ -1,7 +1,10 @@
-use Rattle.std.proofs.Common.{◌≡◌, ◌∙◌, ◌+◌, ◌-◌, ◌*◌, ◌%◌, ◌<◌, ◌≤◌, ℕ, List, ap, arith, get_or, length, [], subst, sym}
+use Rattle.std.proofs.Common.{◌≡◌, ◌∙◌, ◌+◌, ◌-◌, ◌*◌, ◌%◌, ◌<◌, ◌≤◌, ℕ, List, ap, arith, get_or, length, [], refl, sym}
 use Rattle.std.proofs.lemmas.List.{get_or_read, length-set}
 use Rattle.leray_conley.specs.Echelons.{cell}
-use Rattle.leray_conley.proofs.Echelons.{replaced}
+use Rattle.field_mod.specs.Modular.{Same, minus}
+use Rattle.field_mod.proofs.Modular.{same_refl, same_trans, same-add, same-mul}
+use Rattle.leray_conley.proofs.Totals.{exact}
+use Rattle.leray_conley.proofs.Echelons.{added_at, by_minus, replaced}
 use Rattle.leray_conley.proofs.echelon.clear_column.Goals as goal
 
 pub loop-k-preserved : goal.loop-k-preserved
@@ -21,12 +24,12 @@ loop-k-preserved g c =
     record {
       len = length-set rows k new ∙ lens;
       widths = λ i l. replaced rows k i new (λ r. length r ≡ length row) lk (λ m. c.add_scaled.ensures.len ∙ wide) (λ n. inv.widths i l);
-      done = λ i j l lj. replaced rows k i new (λ r. get_or r j 0 ≡ (cell old i j + (p - cell old i c.args.c) % p * get_or row j 0) % p) lk
+      done = λ i j l lj. replaced rows k i new (λ r. Same p (get_or r j 0) (cell old i j + minus p (cell old i c.args.c) * get_or row j 0)) lk
           (λ m.
-            let x = get_or c.index_mut-other.result.now j 0 in
-            let y = get_or row j 0 in
-            c.add_scaled.ensures.value j (omega arith) ∙ ap (λ (by : ℕ). (x + by * y) % p) c.neg-by.ensures.value ∙ ap (λ (z : ℕ). (x + (p - z) % p * y) % p) c.entry.ensures.value
-            ∙ ap (λ (r : List ℕ). (get_or r j 0 + (p - get_or r c.args.c 0) % p * y) % p) (s ∙ sym (ap (λ (z : ℕ). get_or old z []) m)))
+            let o = get_or c.index_mut-other.result.now in
+            let a = added_at p (o j 0) (get_or row j 0) (get_or row j 0) (get_or new j 0) c.neg-by.result (c.add_scaled.ensures.value j (omega arith)) refl in
+            let b = by_minus p c.entry.result (o c.args.c 0) c.neg-by.result c.entry.ensures.below c.neg-by.ensures.value c.entry.ensures.value in
+            same_trans a (same_trans (same-add (same_refl p (o j 0)) (same-mul b (same_refl p (get_or row j 0)))) (exact (ap (λ (r : List ℕ). get_or r j 0 + minus p (get_or r c.args.c 0) * get_or row j 0) (s ∙ sym (ap (λ (z : ℕ). get_or old z []) m))))))
           (λ n. inv.done i j (omega arith) lj);
       left = λ i l. replaced rows k i new (λ r. r ≡ get_or old i []) lk (λ m. absurd (omega arith)) (λ n. inv.left i (omega arith));
     }
