@@ -6,6 +6,7 @@ pub mod Existence
 pub mod Filling
 pub mod Insertions
 pub mod Inverses
+pub mod Reductions
 pub mod Similar
 pub mod Solutions
 pub mod Totals

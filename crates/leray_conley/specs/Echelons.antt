@@ -32,8 +32,8 @@ pub record IsExtended (p n r s : ℕ) (a : ℕ → ℕ → ℕ) (row : ℕ → �
   pub back : (v : ℕ → ℕ) → IsInKernel p s n b v → IsInKernel p r n a v
   pub last : (v : ℕ → ℕ) → IsInKernel p s n b v → Same p (along n row v) 0
 
--- the rows b are in reduced form and have the kernel of the matrix a, which has m rows
-pub record IsReduced (p n m r : ℕ) (a b : ℕ → ℕ → ℕ) (pivot : ℕ → ℕ) : Type 0 where
-  pub echelon : IsEchelon p n r b pivot
-  pub forth : (v : ℕ → ℕ) → IsInKernel p m n a v → IsInKernel p r n b v
-  pub back : (v : ℕ → ℕ) → IsInKernel p r n b v → IsInKernel p m n a v
+-- the rows are in reduced form and have the kernel of the matrix a, which has m rows
+pub record IsReduction (p n m : ℕ) (a : ℕ → ℕ → ℕ) (rows : List (List ℕ)) (pivots : List ℕ) : Type 0 where
+  pub form : HasEchelon p n rows pivots
+  pub forth : (v : ℕ → ℕ) → IsInKernel p m n a v → IsInKernel p (length rows) n (cell rows) v
+  pub back : (v : ℕ → ℕ) → IsInKernel p (length rows) n (cell rows) v → IsInKernel p m n a v

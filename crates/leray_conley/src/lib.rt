@@ -5,6 +5,7 @@ mod echelon;
 mod laws;
 mod matrix;
 mod products;
+mod reduce;
 mod row;
 
 pub use laws::{inverse_or_kernel, right_inverses_are_left, splitting_ranks_agree, splittings_exist};

@@ -1,5 +1,5 @@
 //! Rows of numbers below `P`, and the operations of elimination on them.
-ghost use Rattle.std.specs.Prelude.{◌≡◌, ℕ, ◌+◌, ◌*◌, ◌%◌, ◌<◌, ◌≤◌, List, length, slice_index, IfOk, MatchOption};
+ghost use Rattle.std.specs.Prelude.{◌≡◌, ℕ, ◌+◌, ◌*◌, ◌%◌, ◌<◌, ◌≤◌, List, [], ◌∷◌, ◌++◌, length, slice_index, IfOk, MatchOption, OnOk};
 ghost use Rattle.leray_conley.specs.Rows.{IsLeading};
 
 use std::alloc::{AllocError, Global};
@@ -54,6 +54,15 @@ impl<const P: u16> Row<P> {
         Ok(Row {
             entries: Vec::from_slice(alloc, entries)?,
         })
+    }
+
+    /// Appends an entry.
+    pub fn push(&mut self, entry: u16) -> Result<(), AllocError>
+        requires { entry < P }
+        ensures { OnOk result (self.new ≡ self.old ++ entry ∷ []) }
+    {
+        self.entries.push(entry)?;
+        Ok(())
     }
 
     /// The number of entries.
