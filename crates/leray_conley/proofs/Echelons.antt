@@ -1,7 +1,7 @@
 -- Rows in reduced form: clearing a row, and taking one more in
-use Rattle.std.proofs.Common.{◌≡◌, ℕ, zero, suc, ◌+◌, ◌-◌, ◌*◌, ◌%◌, ◌<◌, ◌≤◌, ◌⊎◌, refl, sym, ap, ◌∙◌, arith, ⊎_elim, cond, eqb, eq-eqb, ne_eqb, inl, inr, List, [], length, get_or, set}
+use Rattle.std.proofs.Common.{◌≡◌, ℕ, zero, suc, ◌+◌, ◌-◌, ◌*◌, ◌%◌, ◌<◌, ◌≤◌, ◌⊎◌, refl, sym, ap, ◌∙◌, arith, ⊎_elim, cond, eqb, eq-eqb, ne_eqb, inl, inr, List, [], ◌∷◌, ◌++◌, length, get_or, set}
 use Rattle.std.proofs.lemmas.Bool.{cases_lt}
-use Rattle.std.proofs.lemmas.List.{get_or-set_same, get_or-set_other}
+use Rattle.std.proofs.lemmas.List.{get_or-set_same, get_or-set_other, get_or_append_left, get_or_push}
 use native.Mathlib.Nat.{mod-mod}
 use Rattle.field_mod.specs.Sums.{total}
 use Rattle.field_mod.specs.Modular.{Same, minus}
@@ -41,6 +41,12 @@ pub by_minus : (p y z by : ℕ) → y < p → by ≡ (p - y) % p → y ≡ z →
 by_minus p y z by l e f =
     let o = neg_cancel p y (omega arith) in
     same_trans (exact e) (same_trans (same_mod p (p - y)) (same_trans (same_by p y 1 (p - y) ((p - 1) * y) (omega arith)) (exact (ap (minus p) f))))
+
+-- the difference that the field gives
+pub subtracted_at : (p x y d : ℕ) → y < p → d ≡ (x + (p - y)) % p → Same p d (x + minus p y)
+subtracted_at p x y d l e =
+    let o = neg_cancel p y (omega arith) in
+    same_trans (exact e) (same_trans (same_mod p (x + (p - y))) (same-add (same_refl p x) (same_by p y 1 (p - y) ((p - 1) * y) (omega arith))))
 
 module _ (p n : ℕ) where
   -- a row, and the sum of it and a multiple of another
@@ -130,12 +136,19 @@ module _ (p n r c : ℕ) (b b2 : ℕ → ℕ → ℕ) (pivot pivot2 q : ℕ → 
 
 -- ---- writes to one row of a list of rows
 
--- a fact of each row after row k is replaced
-pub replaced : (rows : List (List ℕ)) (k i : ℕ) (row : List ℕ) (Q : List ℕ → Type 0) → k < length rows → (i ≡ k → Q row) → ((i ≡ k → ⊥) → Q (get_or rows i [])) → Q (get_or (set rows k row) i [])
-replaced rows k i row Q l here there = ⊎_elim
-    (λ (m : i ≡ k). let e : get_or (set rows k row) i [] ≡ row = ap (λ (x : ℕ). get_or (set rows k row) x []) m ∙ get_or-set_same rows k row [] l in rw e (here m))
-    (λ (n : i ≡ k → ⊥). let e : get_or (set rows k row) i [] ≡ get_or rows i [] = get_or-set_other rows k i row [] n in rw e (there n))
+same_or_not : (i k : ℕ) → (i ≡ k) ⊎ (i ≡ k → ⊥)
+same_or_not i k = ⊎_elim (λ l. inr (λ e. absurd (omega arith))) (λ l. ⊎_elim (λ m. inr (λ e. absurd (omega arith))) (λ m. inl (omega arith)) (cases_lt k i)) (cases_lt i k)
+
+-- a fact of each item after the one at k is replaced
+pub replaced : {X : Type 0} (d : X) (rows : List X) (k i : ℕ) (row : X) (Q : X → Type 0) → k < length rows → (i ≡ k → Q row) → ((i ≡ k → ⊥) → Q (get_or rows i d)) → Q (get_or (set rows k row) i d)
+replaced {X} d rows k i row Q l here there = ⊎_elim
+    (λ (m : i ≡ k). let e : get_or (set rows k row) i d ≡ row = ap (λ (x : ℕ). get_or (set rows k row) x d) m ∙ get_or-set_same rows k row d l in rw e (here m))
+    (λ (n : i ≡ k → ⊥). let e : get_or (set rows k row) i d ≡ get_or rows i d = get_or-set_other rows k i row d n in rw e (there n))
     (same_or_not i k)
-  where
-    same_or_not : (i k : ℕ) → (i ≡ k) ⊎ (i ≡ k → ⊥)
-    same_or_not i k = ⊎_elim (λ l. inr (λ e. absurd (omega arith))) (λ l. ⊎_elim (λ m. inr (λ e. absurd (omega arith))) (λ m. inl (omega arith)) (cases_lt k i)) (cases_lt i k)
+
+-- a fact of each item after one more at the end
+pub pushed_at : {X : Type 0} (d : X) (es : List X) (x : X) (k q : ℕ) (Q : X → Type 0) → length es ≡ k → q < k + 1 → (q < k → Q (get_or es q d)) → (q ≡ k → Q x) → Q (get_or (es ++ x ∷ []) q d)
+pushed_at {X} d es x k q Q e l f g = ⊎_elim
+    (λ m. let e1 : get_or (es ++ x ∷ []) q d ≡ get_or es q d = get_or_append_left es (x ∷ []) d q (omega arith) in rw e1 (f m))
+    (λ (m : q ≡ k). let e2 : get_or (es ++ x ∷ []) q d ≡ x = get_or_push es x d q (omega arith) in rw e2 (g m))
+    (below_cases q k l)

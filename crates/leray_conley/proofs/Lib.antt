@@ -4,8 +4,10 @@ pub mod Complements
 pub mod Echelons
 pub mod Existence
 pub mod Filling
+pub mod Free
 pub mod Insertions
 pub mod Inverses
+pub mod Reduced
 pub mod Reductions
 pub mod Similar
 pub mod Solutions

@@ -1,7 +1,7 @@
 -- Gauss-Jordan elimination: what rows in reduced form are, and what they have in common with the matrix they came from
-use Rattle.std.specs.Prelude.{◌≡◌, ℕ, ◌+◌, ◌*◌, ◌<◌, List, length, slice_index, slice_index_or, []}
+use Rattle.std.specs.Prelude.{◌≡◌, ℕ, ◌+◌, ◌*◌, ◌<◌, ◌≢◌, List, length, slice_index, slice_index_or, []}
 use Rattle.field_mod.specs.Sums.{total}
-use Rattle.field_mod.specs.Modular.{Same}
+use Rattle.field_mod.specs.Modular.{Same, minus}
 use Rattle.leray_conley.specs.Products.{identity}
 use Rattle.leray_conley.specs.Kernels.{IsInKernel}
 
@@ -37,3 +37,14 @@ pub record IsReduction (p n m : ℕ) (a : ℕ → ℕ → ℕ) (rows : List (Lis
   pub form : HasEchelon p n rows pivots
   pub forth : (v : ℕ → ℕ) → IsInKernel p m n a v → IsInKernel p (length rows) n (cell rows) v
   pub back : (v : ℕ → ℕ) → IsInKernel p (length rows) n (cell rows) v → IsInKernel p m n a v
+
+-- the columns below n without a pivot, each once
+pub record AreFree (n : ℕ) (pivots free : List ℕ) : Type 0 where
+  pub within : (t : ℕ) → t < length free → slice_index free t < n
+  pub apart : (t k : ℕ) → t < length free → k < length pivots → slice_index pivots k ≢ slice_index free t
+  pub every : (c : ℕ) → c < n → ((k : ℕ) → k < length pivots → slice_index pivots k ≢ c) → (t : ℕ) × (t < length free) × (slice_index free t ≡ c)
+  pub distinct : (t u : ℕ) → t < length free → u < length free → slice_index free t ≡ slice_index free u → t ≡ u
+
+-- column c is the vector of the kernel that is 1 at c and 0 at the other columns without a pivot
+abbrev pub kernel_matrix : ℕ → ℕ → (ℕ → ℕ → ℕ) → (ℕ → ℕ) → ℕ → ℕ → ℕ
+kernel_matrix p r b pivot l c = identity l c + total r (λ k. identity l (pivot k) * minus p (b k c))

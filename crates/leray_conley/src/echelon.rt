@@ -1,7 +1,7 @@
 //! Gauss-Jordan elimination, one row after the other.
-ghost use Rattle.std.specs.Prelude.{◌≡◌, ℕ, ◌+◌, ◌-◌, ◌*◌, ◌%◌, ◌<◌, ◌≤◌, [], length, slice_index, slice_index_or, OnOk};
+ghost use Rattle.std.specs.Prelude.{◌≡◌, ℕ, ◌+◌, ◌-◌, ◌*◌, ◌%◌, ◌<◌, ◌≤◌, ◌≢◌, [], length, slice_index, slice_index_or, OnOk, IfOk, MatchOption};
 ghost use Rattle.field_mod.specs.Modular.{Same, minus};
-ghost use Rattle.leray_conley.specs.Echelons.{HasEchelon, IsExtended, along, cell};
+ghost use Rattle.leray_conley.specs.Echelons.{AreFree, HasEchelon, IsExtended, along, cell, kernel_matrix};
 ghost use Rattle.leray_conley.specs.Kernels.{IsInKernel};
 
 use std::alloc::{AllocError, Global};
@@ -76,5 +76,61 @@ impl<const P: u16> Echelon<P> {
             self.pivots.push(c)?;
         }
         Ok(())
+    }
+
+    /// The row whose pivot is in a column.
+    pub fn row_of(&self, column: usize) -> Option<usize>
+        ensures { MatchOption result ((k : ℕ) → k < length self.now.pivots.items → slice_index self.now.pivots.items k ≢ column)
+            (λ k. (k < length self.now.pivots.items) × (slice_index self.now.pivots.items k ≡ column)) }
+    {
+        for k in 0..self.pivots.len() {
+            if self.pivots[k] == column {
+                return Some(k);
+            }
+        }
+        None
+    }
+
+    /// Adds a column to the columns without a pivot, if it has none.
+    fn take_free(&self, free: &mut Vec<usize>, column: usize) -> Result<(), AllocError>
+        requires { AreFree column self.now.pivots.items free.old.items }
+        ensures { OnOk result (AreFree (column + 1) self.now.pivots.items free.new.items) }
+    {
+        match self.row_of(column) {
+            Some(_) => Ok(()),
+            None => {
+                free.push(column)?;
+                Ok(())
+            }
+        }
+    }
+
+    /// The columns below `n` that have no pivot.
+    pub fn free_columns(&self, alloc: Global, n: usize) -> Result<Vec<usize>, AllocError>
+        ensures { IfOk result (λ free. AreFree n self.now.pivots.items free.items) }
+    {
+        let mut free = Vec::new(alloc);
+        for column in 0..n {
+            self.take_free(&mut free, column)?;
+        }
+        Ok(free)
+    }
+
+    /// The vector of the kernel that is 1 at column `c` and 0 at the other columns without a pivot.
+    pub fn kernel_column(&self, alloc: Global, f: Field<P>, n: usize, c: usize) -> Result<Vec<u16>, AllocError>
+        requires form { HasEchelon P n self.now.rows.items self.now.pivots.items }
+        requires column { c < n }
+        ensures len { IfOk result (λ v. length v.items ≡ n) }
+        ensures below { IfOk result (λ v. (l : ℕ) → l < n → slice_index v.items l < P) }
+        ensures value { IfOk result (λ v. (l : ℕ) → l < n → Same P (slice_index v.items l)
+            (kernel_matrix P (length self.now.rows.items) (cell self.now.rows.items) (slice_index self.now.pivots.items) l c)) }
+    {
+        let mut vector = vec![in alloc; 0u16; n]?;
+        vector[c] = 1;
+        for k in 0..self.rows.len() {
+            let l = self.pivots[k];
+            vector[l] = f.sub(vector[l], self.rows[k].entry(c));
+        }
+        Ok(vector)
     }
 }

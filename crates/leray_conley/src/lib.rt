@@ -2,6 +2,7 @@
 #![tactic(auto)]
 
 mod echelon;
+mod kernels;
 mod laws;
 mod matrix;
 mod products;
