@@ -136,7 +136,7 @@ module _ (p n r c : ℕ) (b b2 : ℕ → ℕ → ℕ) (pivot pivot2 q : ℕ → 
 
 -- ---- writes to one row of a list of rows
 
-same_or_not : (i k : ℕ) → (i ≡ k) ⊎ (i ≡ k → ⊥)
+pub same_or_not : (i k : ℕ) → (i ≡ k) ⊎ (i ≡ k → ⊥)
 same_or_not i k = ⊎_elim (λ l. inr (λ e. absurd (omega arith))) (λ l. ⊎_elim (λ m. inr (λ e. absurd (omega arith))) (λ m. inl (omega arith)) (cases_lt k i)) (cases_lt i k)
 
 -- a fact of each item after the one at k is replaced

@@ -12,7 +12,7 @@ use Rattle.leray_conley.specs.Ranks.{IsImageBasis, IsRank}
 use Rattle.leray_conley.proofs.Algebra.{plus, by, chain, add, itself, mul_left, mul_right, assoc, mul_sum, one_mul, mul_one, mul_none, sum_none}
 use Rattle.leray_conley.proofs.Echelons.{identity_same, identity_other, same_or_not}
 use Rattle.leray_conley.proofs.Solutions.{solve}
-use Rattle.leray_conley.proofs.Totals.{exact, eqb_sym, neg_cancel, one_nonzero, total-single, total_none}
+use Rattle.leray_conley.proofs.Totals.{exact, eqb_sym, neg_cancel, one_nonzero, total-at, total-single, total_none}
 
 -- a vector as a matrix with one column
 abbrev pub column : (ℕ → ℕ) → ℕ → ℕ → ℕ
@@ -88,14 +88,13 @@ module _ (p n r : ℕ) (field : IsField p) (b : ℕ → ℕ → ℕ) (pivot : �
             (λ q. exact (identity_other k u.0 q ∙ sym (identity_other j c (λ s. q (apart u.0 k u.1 w.1 (u.2 ∙ s ∙ sym w.2))))))
             (same_or_not u.0 k)))
       in
-      same_trans (exact (sym (total-same n (λ c. identity j c * v c) (λ c. cond (eqb c j) 1 0 * v c) (λ c m. refl) ∙ at_one)))
-      (same_trans (same_sym (total_same p n (λ c. b k c * v c) (λ c. identity j c * v c) (λ c m. same-mul (row c m) (same_refl p (v c))))) (z k w.1))
+      same_trans (exact (sym (total-at n j v l))) (same_trans (same_sym (total_same p n (λ c. b k c * v c) (λ c. identity j c * v c) (λ c m. same-mul (row c m) (same_refl p (v c))))) (z k w.1))
     where
       apart : (i k : ℕ) → i < r → k < r → pivot i ≡ pivot k → i ≡ k
-      apart i k x y q = ?
-
-      at_one : total n (λ c. cond (eqb c j) 1 0 * v c) ≡ v j
-      at_one = ?
+      apart i k x y q = ⊎_elim
+          (λ s. s)
+          (λ s. absurd (one_nonzero p field.above_one (same_trans (exact (sym (identity_same i))) (same_trans (same_sym (e.unit i i x x)) (same_trans (exact (ap (b i) q)) (same_trans (e.unit i k x y) (exact (identity_other i k (λ t. s (sym t))))))))))
+          (same_or_not i k)
 
   -- .. and the same for a matrix a of m rows with the same kernel
   module _ (m : ℕ) (a : ℕ → ℕ → ℕ) (forth : (v : ℕ → ℕ) → IsInKernel p m n a v → IsInKernel p r n b v) (back : (v : ℕ → ℕ) → IsInKernel p r n b v → IsInKernel p m n a v) where

@@ -64,3 +64,7 @@ pub total-lists : (n : ℕ) (us vs : List ℕ) (a b : ℕ → ℕ) → length us
 total-lists n us vs a b e ha hb =
     ap (λ (v : ℕ). total v (λ l. get_or us l 0 * get_or vs l 0)) e
     ∙ total-same n (λ l. get_or us l 0 * get_or vs l 0) (λ l. a l * b l) (λ l m. ap (λ (v : ℕ). v * get_or vs l 0) (ha l m) ∙ ap (λ (v : ℕ). a l * v) (hb l m))
+
+pub positive_from_test : (n : ℕ) → eqb n 0 ≡ false → 0 < n
+positive_from_test zero e = absurd (true≢false e)
+positive_from_test (suc n) e = omega arith
