@@ -12,3 +12,4 @@ pub mod Reductions
 pub mod Similar
 pub mod Solutions
 pub mod Totals
+pub mod Transfers

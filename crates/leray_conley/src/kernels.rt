@@ -16,7 +16,10 @@ impl<const P: u16> Matrix<P> {
     pub fn rank(&self, alloc: Global, f: Field<P>) -> Result<u32, AllocError>
         ensures { IfOk result (IsRank P self.now.rows self.now.columns (entry self.now)) }
     {
-        Ok(self.reduce(alloc, f, 0)?.rows.len() as u32)
+        let rank = self.reduce(alloc, f, 0)?.rows.len();
+        let columns = self.columns() as usize;
+        prove!(rank <= columns);
+        Ok(rank as u32)
     }
 
     /// A vector that is not 0 and that the matrix sends to 0; `None` exactly where there is none.
