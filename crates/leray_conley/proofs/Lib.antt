@@ -9,6 +9,7 @@ pub mod Insertions
 pub mod Inverses
 pub mod Reduced
 pub mod Reductions
+pub mod RightBlocks
 pub mod Similar
 pub mod Solutions
 pub mod Totals

@@ -76,25 +76,26 @@ module _ (p n r : ℕ) (field : IsField p) (b : ℕ → ℕ → ℕ) (pivot : �
   pub kernel_free : (l c : ℕ) → ((k : ℕ) → k < r → pivot k ≢ l) → Same p (kernel_matrix p r b pivot l c) (identity l c)
   kernel_free l c h = same_trans (same-add (same_refl p (identity l c)) (total_none p r (λ k. identity l (pivot k) * minus p (b k c)) (λ k m. exact (ap (λ (x : ℕ). x * minus p (b k c)) (identity_other l (pivot k) (h k m)) ∙ omega arith)))) (exact (omega arith))
 
+  pub pivots_apart : (i k : ℕ) → i < r → k < r → pivot i ≡ pivot k → i ≡ k
+  pivots_apart i k x y q = ⊎_elim
+      (λ s. s)
+      (λ s. absurd (one_nonzero p field.above_one (same_trans (exact (sym (identity_same i))) (same_trans (same_sym (e.unit i i x x)) (same_trans (exact (ap (b i) q)) (same_trans (e.unit i k x y) (exact (identity_other i k (λ t. s (sym t))))))))))
+      (same_or_not i k)
+
+  -- a row in a column that has a pivot
+  pub unit_row : (k c : ℕ) → k < r → (u : (i : ℕ) × (i < r) × (pivot i ≡ c)) → Same p (b k c) (identity (pivot k) c)
+  unit_row k c l u = same_trans (exact (ap (b k) (sym u.2))) (same_trans (e.unit k u.0 l u.1) (⊎_elim
+      (λ q. exact (ap (identity k) q ∙ identity_same k ∙ sym (ap (identity (pivot k)) (sym u.2 ∙ ap pivot q) ∙ identity_same (pivot k))))
+      (λ q. exact (identity_other k u.0 q ∙ sym (identity_other (pivot k) c (λ s. q (pivots_apart u.0 k u.1 l (u.2 ∙ s))))))
+      (same_or_not u.0 k)))
+
   -- where each column has a pivot, the kernel is 0
   pub all_pivots : ((c : ℕ) → c < n → (k : ℕ) × (k < r) × (pivot k ≡ c)) → IsInjective p r n b
   all_pivots h v z j l =
       let w = h j l in
       let k = w.0 in
-      let row : (c : ℕ) → c < n → Same p (b k c) (identity j c) = λ c m.
-          let u = h c m in
-          same_trans (exact (ap (b k) (sym u.2))) (same_trans (e.unit k u.0 w.1 u.1) (⊎_elim
-            (λ q. exact (ap (identity k) q ∙ identity_same k ∙ sym (ap (identity j) (sym u.2 ∙ ap pivot q ∙ w.2) ∙ identity_same j)))
-            (λ q. exact (identity_other k u.0 q ∙ sym (identity_other j c (λ s. q (apart u.0 k u.1 w.1 (u.2 ∙ s ∙ sym w.2))))))
-            (same_or_not u.0 k)))
-      in
+      let row : (c : ℕ) → c < n → Same p (b k c) (identity j c) = λ c m. same_trans (unit_row k c w.1 (h c m)) (exact (ap (λ (x : ℕ). identity x c) w.2)) in
       same_trans (exact (sym (total-at n j v l))) (same_trans (same_sym (total_same p n (λ c. b k c * v c) (λ c. identity j c * v c) (λ c m. same-mul (row c m) (same_refl p (v c))))) (z k w.1))
-    where
-      apart : (i k : ℕ) → i < r → k < r → pivot i ≡ pivot k → i ≡ k
-      apart i k x y q = ⊎_elim
-          (λ s. s)
-          (λ s. absurd (one_nonzero p field.above_one (same_trans (exact (sym (identity_same i))) (same_trans (same_sym (e.unit i i x x)) (same_trans (exact (ap (b i) q)) (same_trans (e.unit i k x y) (exact (identity_other i k (λ t. s (sym t))))))))))
-          (same_or_not i k)
 
   -- .. and the same for a matrix a of m rows with the same kernel
   module _ (m : ℕ) (a : ℕ → ℕ → ℕ) (forth : (v : ℕ → ℕ) → IsInKernel p m n a v → IsInKernel p r n b v) (back : (v : ℕ → ℕ) → IsInKernel p r n b v → IsInKernel p m n a v) where

@@ -5,7 +5,7 @@ use Rattle.std.proofs.lemmas.Nat.{mul-lt}
 use Rattle.field_mod.specs.Sums.{total}
 use Rattle.field_mod.specs.Modular.{Same, NonZero, IsField}
 use Rattle.field_mod.proofs.Sums.{total-same, total-zero, total_same}
-use Rattle.field_mod.proofs.Modular.{same_by, same_refl, same_sym, same_trans, same-scale, same-mul}
+use Rattle.field_mod.proofs.Modular.{same_by, same_refl, same_sym, same_trans, same-add, same-scale, same-mul}
 
 pub exact : {p a b : ℕ} → a ≡ b → Same p a b
 exact {p} e = same_by p 0 0 _ _ (ap (λ v. v + p * 0) e)
@@ -68,3 +68,9 @@ total-lists n us vs a b e ha hb =
 pub positive_from_test : (n : ℕ) → eqb n 0 ≡ false → 0 < n
 positive_from_test zero e = absurd (true≢false e)
 positive_from_test (suc n) e = omega arith
+
+-- a number whose negative is known
+pub same_from_negative : (p x s : ℕ) → 1 ≤ p → Same p (x + (p - 1) * s) 0 → Same p s x
+same_from_negative p x s l h =
+    let o = neg_cancel p s l in
+    same_trans (same_sym (same_trans (same-add h (same_refl p s)) (exact (omega arith)))) (same_by p 0 s _ _ (omega arith))

@@ -48,3 +48,7 @@ pub record AreFree (n : ℕ) (pivots free : List ℕ) : Type 0 where
 -- column c is the vector of the kernel that is 1 at c and 0 at the other columns without a pivot
 abbrev pub kernel_matrix : ℕ → ℕ → (ℕ → ℕ → ℕ) → (ℕ → ℕ) → ℕ → ℕ → ℕ
 kernel_matrix p r b pivot l c = identity l c + total r (λ k. identity l (pivot k) * minus p (b k c))
+
+-- x, with d rows, has the entries beyond column d of the rows b, in the order of their pivots
+pub record IsRightBlock (d r : ℕ) (b : ℕ → ℕ → ℕ) (pivot : ℕ → ℕ) (x : ℕ → ℕ → ℕ) (count : ℕ) : Type 0 where
+  pub rows : (j : ℕ) → j < count → (k : ℕ) × (k < r) × (pivot k ≡ j) × ((i : ℕ) → i < d → x j i ≡ b k (d + i))

@@ -1,4 +1,5 @@
 pub mod Echelons
+pub mod Faults
 pub mod Inverses
 pub mod Kernels
 pub mod Products

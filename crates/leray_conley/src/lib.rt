@@ -2,6 +2,7 @@
 #![tactic(auto)]
 
 mod echelon;
+mod inverse;
 mod kernels;
 mod laws;
 mod matrix;
@@ -9,5 +10,6 @@ mod products;
 mod reduce;
 mod row;
 
+pub use inverse::InverseFault;
 pub use laws::{inverse_or_kernel, right_inverses_are_left, splitting_ranks_agree, splittings_exist};
 pub use matrix::Matrix;

@@ -81,6 +81,16 @@ impl<const P: u16> Row<P> {
         self.entries[j]
     }
 
+    /// The entries from `start` on.
+    pub fn after(&self, start: usize) -> &[u16]
+        requires { start ≤ length self.now }
+        ensures len { length result.now + start ≡ length self.now }
+        ensures below { (j : ℕ) → start + j < length self.now → slice_index result.now j < P }
+        ensures value { (j : ℕ) → start + j < length self.now → slice_index result.now j ≡ slice_index self.now (start + j) }
+    {
+        &self.entries[start..]
+    }
+
     /// The place of the first entry that is not 0.
     pub fn leading(&self) -> Option<usize>
         ensures { MatchOption result ((j : ℕ) → j < length self.now → slice_index self.now j ≡ 0) (IsLeading self.now) }
