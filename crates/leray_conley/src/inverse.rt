@@ -44,3 +44,33 @@ fn right_block<const P: u16>(alloc: Global, echelon: &Echelon<P>, size: u32) -> 
     }
     Ok(Matrix::new(size, size, entries))
 }
+
+impl From<AllocError> for InverseFault {
+    ghost use Rattle.std.specs.Prelude.{◌≡◌};
+    ghost use Rattle.leray_conley.specs.declared.inverse.InverseFault.TheVariants.{NoMemory};
+
+    ghost from_gives = { λ _ e. e ≡ NoMemory };
+
+    fn from(_e: AllocError) -> InverseFault {
+        InverseFault::NoMemory
+    }
+}
+
+impl<const P: u16> Matrix<P> {
+    /// The inverse of a square matrix; `Singular` exactly where it has none, with a vector that is not 0 and that it
+    /// sends to 0.
+    pub fn inverse(&self, alloc: Global, f: Field<P>) -> Result<Matrix<P>, InverseFault>
+        requires square { self.now.rows ≡ self.now.columns }
+        ensures rows { IfOk result (λ m. m.rows ≡ self.now.rows) }
+        ensures columns { IfOk result (λ m. m.columns ≡ self.now.rows) }
+        ensures inverse { IfOk result (λ m. IsInverse P self.now.rows (entry self.now) (entry m)) }
+        ensures fault { IfErr result (IsFaultOf P self.now.rows (entry self.now)) }
+    {
+        if let Some(kernel) = self.kernel_vector(alloc, f)? {
+            return Err(InverseFault::Singular { kernel });
+        }
+        let size = self.rows();
+        let echelon = self.reduce(alloc, f, size)?;
+        Ok(right_block(alloc, &echelon, size)?)
+    }
+}
