@@ -7,10 +7,10 @@ use Rattle.field_mod.proofs.Sums.{total-same, total-scale}
 use Rattle.field_mod.proofs.Modular.{same_by, same_refl, same_sym, same_trans, same-add, same-scale, same-mul}
 use Rattle.leray_conley.proofs.Solutions.{Solution, solve}
 use Rattle.leray_conley.proofs.Totals.{exact, total_none, decide_zero, neg_cancel}
-use Rattle.leray_conley.specs.Products.{product, identity, AreSame}
+use Rattle.leray_conley.specs.Products.{product, identity, none, AreSame}
 use Rattle.leray_conley.specs.Kernels.{IsKilled}
-use Rattle.leray_conley.specs.Inverses.{InverseOrKernel, RightInversesAreLeft}
-use Rattle.leray_conley.proofs.Algebra.{by, chain, mul_left, mul_right, assoc, one_mul, mul_one}
+use Rattle.leray_conley.specs.Inverses.{IsInverse, InverseOrKernel, RightInversesAreLeft}
+use Rattle.leray_conley.proofs.Algebra.{by, chain, mul_left, mul_right, assoc, one_mul, mul_one, mul_none}
 
 -- a vector that the matrix sends to the i-th of the standard ones
 record Column (p d : ℕ) (a : ℕ → ℕ → ℕ) (i : ℕ) : Type 0 where
@@ -94,3 +94,11 @@ right_inverses_are_left p d a b field h = ⊎_elim
 
 pub inverse_or_kernel : InverseOrKernel
 inverse_or_kernel p d a field = ⊎_elim (λ k. inr k) (λ b. inl (b.0, (b.1, right_inverses_are_left p d a b.0 field b.1))) (right_or_kernel p d a field)
+
+-- where a vector is killed, there is no inverse
+pub no_inverse : (p d : ℕ) (a : ℕ → ℕ → ℕ) (v : ℕ → ℕ) → IsKilled p d d a v → (b : ℕ → ℕ → ℕ) → IsInverse p d a b → ⊥
+no_inverse p d a v k b h =
+    let col : ℕ → ℕ → ℕ = λ i j. v i in
+    let z : AreSame p d 1 (product d a col) none = record { at = λ i j x y. k.kills i x } in
+    let e : AreSame p d 1 col none = chain (by (one_mul p d 1 col)) (chain (mul_left p d d 1 identity (product d b a) col (by h.1)) (chain (assoc p d d d 1 b a col) (chain (mul_right p d d 1 b (product d a col) none z) (mul_none p d d 1 b)))) in
+    k.nonzero (e.at k.place 0 k.within (omega arith))

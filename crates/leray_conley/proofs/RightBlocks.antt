@@ -1,5 +1,5 @@
 -- Elimination of a square matrix beside the identity: where the matrix kills nothing, its inverse stands on the right
-use Rattle.std.proofs.Common.{◌≡◌, ◌≢◌, ℕ, zero, suc, ◌+◌, ◌-◌, ◌*◌, ◌<◌, ◌≤◌, ◌⊎◌, inl, inr, refl, sym, ap, ◌∙◌, arith, ⊎_elim, cond, ltb, lt-ltb, le-ltb}
+use Rattle.std.proofs.Common.{◌≡◌, ◌≢◌, ℕ, zero, suc, ◌+◌, ◌-◌, ◌*◌, ◌<◌, ◌≤◌, ◌⊎◌, inl, inr, refl, sym, ap, ◌∙◌, arith, ⊎_elim, cond, ltb, lt-ltb, le-ltb, List, length, get_or, subst}
 use Rattle.std.proofs.lemmas.Bool.{cases_lt}
 use Rattle.field_mod.specs.Sums.{total}
 use Rattle.field_mod.specs.Modular.{Same, IsField, minus}
@@ -9,7 +9,7 @@ use Rattle.leray_conley.specs.Products.{product, identity, none, AreSame}
 use Rattle.leray_conley.specs.Kernels.{IsInKernel, IsKilled}
 use Rattle.leray_conley.specs.Inverses.{IsInverse}
 use Rattle.leray_conley.specs.Splitting.{beside}
-use Rattle.leray_conley.specs.Echelons.{IsEchelon, IsRightBlock, kernel_matrix}
+use Rattle.leray_conley.specs.Echelons.{IsEchelon, IsReduction, IsRightBlock, cell, kernel_matrix}
 use Rattle.leray_conley.proofs.Algebra.{by, chain, mul_left, mul_right, assoc, mul_one, none_mul}
 use Rattle.leray_conley.proofs.Echelons.{identity_same, identity_other}
 use Rattle.leray_conley.proofs.Existence.{total-split}
@@ -126,3 +126,23 @@ module _ (p d r : ℕ) (field : IsField p) (a b : ℕ → ℕ → ℕ) (pivot : 
               let q : Same p (identity j l + (p - 1) * s) 0 = same_trans (same-add (same_sym (same_trans (unit_row p (d + d) r field b pivot e k l w.1 (all_left l v)) (exact (ap (λ (q : ℕ). identity q l) w.2)))) (exact (ap (λ (q : ℕ). (p - 1) * q) g))) (row_says k l w.1 v) in
               same_from_negative p (identity j l) s one q;
         }
+
+-- ---- the same over lists, with the sizes by the names that they have in the code
+
+pub squared : (p r c s : ℕ) (a : ℕ → ℕ → ℕ) (rows : List (List ℕ)) (pivots : List ℕ) → r ≡ c → s ≡ r → IsReduction p (c + s) r (beside c a identity) rows pivots → IsReduction p (s + s) s (beside s a identity) rows pivots
+squared p r c s a rows pivots e f h =
+    subst (λ (x : ℕ). IsReduction p (s + s) x (beside s a identity) rows pivots) (sym f)
+    (subst (λ (x : ℕ). IsReduction p (x + s) r (beside x a identity) rows pivots) (sym e ∙ sym f) h)
+
+pub square_bound : (r c s n : ℕ) → r ≡ c → s ≡ r → r * c ≤ n → s * s ≤ n
+square_bound r c s n e f h = subst (λ (x : ℕ). x * x ≤ n) (sym f) (subst (λ (x : ℕ). r * x ≤ n) (sym e) h)
+
+pub free_square : (p r c s : ℕ) (a : ℕ → ℕ → ℕ) → r ≡ c → s ≡ r → ((v : ℕ → ℕ) → IsKilled p r c a v → ⊥) → (v : ℕ → ℕ) → IsKilled p s s a v → ⊥
+free_square p r c s a e f h v k = h v (subst (λ (x : ℕ). IsKilled p r x a v) e (subst (λ (x : ℕ). IsKilled p x x a v) f k))
+
+module _ (p s : ℕ) (field : IsField p) (a : ℕ → ℕ → ℕ) (rows : List (List ℕ)) (pivots : List ℕ) (h : IsReduction p (s + s) s (beside s a identity) rows pivots) (free : (v : ℕ → ℕ) → IsKilled p s s a v → ⊥) where
+  pub pivots_of : (j : ℕ) → j < s → (k : ℕ) × (k < length rows) × (get_or pivots k 0 ≡ j)
+  pivots_of = all_left p s (length rows) field a (cell rows) (λ k. get_or pivots k 0) h.form.echelon h.forth h.back free
+
+  pub inverts_of : (x : ℕ → ℕ → ℕ) → IsRightBlock s (length rows) (cell rows) (λ k. get_or pivots k 0) x s → IsInverse p s a x
+  inverts_of = block_inverts p s (length rows) field a (cell rows) (λ k. get_or pivots k 0) h.form.echelon h.forth h.back free
