@@ -92,26 +92,26 @@ module _ (p n r c : ℕ) (b b2 : ℕ → ℕ → ℕ) (pivot pivot2 q : ℕ → 
   unit_at : (i k : ℕ) → i < r + 1 → k < r + 1 → Same p (b2 i (pivot2 k)) (identity i k)
   unit_at i k li lk = ⊎_elim
       (λ i1. ⊎_elim
-        (λ k1. same_trans (exact (ap (b2 i) (h.pivots k k1))) (same_trans (h.others i (pivot k) i1 (e.columns k k1)) (same_trans (same-add (e.unit i k i1 k1) (same-scale (h.by i) (free k k1))) (exact (omega arith)))))
-        (λ k1. same_trans (exact (ap (λ (x : ℕ). b2 i (pivot2 x)) k1 ∙ ap (b2 i) h.new_pivot)) (same_trans (h.others i c i1 within) (same_trans (same-add (same_refl p (b i c)) (same-scale (h.by i) one)) (same_trans (exact (omega arith)) (same_trans (h.clears i i1) (exact (sym (identity_other i k (λ m. absurd (omega arith))))))))))
-        (below_cases k r lk))
+      (λ k1. same_trans (exact (ap (b2 i) (h.pivots k k1))) (same_trans (h.others i (pivot k) i1 (e.columns k k1)) (same_trans (same-add (e.unit i k i1 k1) (same-scale (h.by i) (free k k1))) (exact (omega arith)))))
+      (λ k1. same_trans (exact (ap (λ (x : ℕ). b2 i (pivot2 x)) k1 ∙ ap (b2 i) h.new_pivot)) (same_trans (h.others i c i1 within) (same_trans (same-add (same_refl p (b i c)) (same-scale (h.by i) one)) (same_trans (exact (omega arith)) (same_trans (h.clears i i1) (exact (sym (identity_other i k (λ m. absurd (omega arith))))))))))
+      (below_cases k r lk))
       (λ i1. ⊎_elim
-        (λ k1. same_trans (exact (ap (λ (x : ℕ). b2 x (pivot2 k)) i1 ∙ h.last (pivot2 k) ∙ ap q (h.pivots k k1))) (same_trans (free k k1) (exact (sym (identity_other i k (λ m. absurd (omega arith)))))))
-        (λ k1. same_trans (exact (ap (λ (x : ℕ). b2 x (pivot2 k)) i1 ∙ h.last (pivot2 k) ∙ ap (λ (x : ℕ). q (pivot2 x)) k1 ∙ ap q h.new_pivot)) (same_trans one (exact (sym (ap (identity i) (k1 ∙ sym i1) ∙ identity_same i)))))
-        (below_cases k r lk))
+      (λ k1. same_trans (exact (ap (λ (x : ℕ). b2 x (pivot2 k)) i1 ∙ h.last (pivot2 k) ∙ ap q (h.pivots k k1))) (same_trans (free k k1) (exact (sym (identity_other i k (λ m. absurd (omega arith)))))))
+      (λ k1. same_trans (exact (ap (λ (x : ℕ). b2 x (pivot2 k)) i1 ∙ h.last (pivot2 k) ∙ ap (λ (x : ℕ). q (pivot2 x)) k1 ∙ ap q h.new_pivot)) (same_trans one (exact (sym (ap (identity i) (k1 ∙ sym i1) ∙ identity_same i)))))
+      (below_cases k r lk))
       (below_cases i r li)
 
   leading_at : (k j : ℕ) → k < r + 1 → j < pivot2 k → Same p (b2 k j) 0
   leading_at k j lk lj = ⊎_elim
       (λ k1.
-        let s = h.pivots k k1 in
-        let jp : j < pivot k = omega arith in
-        let jn : j < n = let t = e.columns k k1 in omega arith in
-        let zero : Same p (h.by k * q j) 0 = ⊎_elim
-            (λ l. same_trans (same-scale (h.by k) (first j l)) (exact (omega arith)))
-            (λ l. let z : Same p (b k c) 0 = e.leading k c k1 (omega arith) in let w : Same p (h.by k) 0 = same_trans (same_trans (exact (omega arith)) (same-add (same_refl p (h.by k)) (same_sym z))) (h.clears k k1) in same_trans (same-mul w (same_refl p (q j))) (exact (omega arith)))
-            (cases_lt j c) in
-        same_trans (h.others k j k1 jn) (same_trans (same-add (e.leading k j k1 jp) zero) (exact (omega arith))))
+      let s = h.pivots k k1 in
+      let jp : j < pivot k = omega arith in
+      let jn : j < n = let t = e.columns k k1 in omega arith in
+      let zero : Same p (h.by k * q j) 0 = ⊎_elim
+      (λ l. same_trans (same-scale (h.by k) (first j l)) (exact (omega arith)))
+      (λ l. let z : Same p (b k c) 0 = e.leading k c k1 (omega arith) in let w : Same p (h.by k) 0 = same_trans (same_trans (exact (omega arith)) (same-add (same_refl p (h.by k)) (same_sym z))) (h.clears k k1) in same_trans (same-mul w (same_refl p (q j))) (exact (omega arith)))
+      (cases_lt j c) in
+      same_trans (h.others k j k1 jn) (same_trans (same-add (e.leading k j k1 jp) zero) (exact (omega arith))))
       (λ k1. let s : pivot2 k ≡ c = ap pivot2 k1 ∙ h.new_pivot in same_trans (exact (ap (λ (x : ℕ). b2 x j) k1 ∙ h.last j)) (first j (omega arith)))
       (below_cases k r lk)
 

@@ -64,11 +64,11 @@ module _ (p n r : ℕ) (field : IsField p) (b : ℕ → ℕ → ℕ) (pivot : �
   pub rows_fit : r ≤ n
   rows_fit = ⊎_elim
       (λ l.
-        let s = solve p field n r l (picks pivot) in
-        let v : ℕ → ℕ = s.at in
-        let z : AreSame p n 1 (product r (picks pivot) (column v)) none = record { at = λ i j x y. same_trans (exact (total-same r (λ k. picks pivot i k * v k) (λ k. v k * picks pivot i k) (λ k _. omega arith))) (s.solves i x) } in
-        let w : AreSame p r 1 (column v) none = chain (by (one_mul p r 1 (column v))) (chain (mul_left p r r 1 identity (product n b (picks pivot)) (column v) (by unit_picks)) (chain (assoc p r n r 1 b (picks pivot) (column v)) (chain (mul_right p r n 1 b (product r (picks pivot) (column v)) none z) (mul_none p r n 1 b)))) in
-        absurd (s.nonzero (w.at s.place 0 s.within (omega arith))))
+      let s = solve p field n r l (picks pivot) in
+      let v : ℕ → ℕ = s.at in
+      let z : AreSame p n 1 (product r (picks pivot) (column v)) none = record { at = λ i j x y. same_trans (exact (total-same r (λ k. picks pivot i k * v k) (λ k. v k * picks pivot i k) (λ k _. omega arith))) (s.solves i x) } in
+      let w : AreSame p r 1 (column v) none = chain (by (one_mul p r 1 (column v))) (chain (mul_left p r r 1 identity (product n b (picks pivot)) (column v) (by unit_picks)) (chain (assoc p r n r 1 b (picks pivot) (column v)) (chain (mul_right p r n 1 b (product r (picks pivot) (column v)) none z) (mul_none p r n 1 b)))) in
+      absurd (s.nonzero (w.at s.place 0 s.within (omega arith))))
       (λ l. l)
       (cases_lt n r)
 

@@ -75,20 +75,20 @@ module _ (p d r : ℕ) (field : IsField p) (a b : ℕ → ℕ → ℕ) (pivot : 
     pivots_left k x = ⊎_elim
         (λ l. l)
         (λ l.
-          let y : ℕ → ℕ → ℕ = λ i t. b k (d + t) in
-          let z : AreSame p 1 d (product d y a) none = record {
-            at = λ i j _ w.
-                let s : ℕ = total d (λ t. b k (d + t) * a t j) in
-                same_trans (same_from_negative p (b k j) s one (row_says k j x w)) (e.leading k j x (omega arith));
-          } in
-          absurd (⊎_elim
-            (λ c.
-              let n : AreSame p 1 d y none = chain (by (mul_one p 1 d y)) (chain (mul_right p 1 d d y identity (product d a c.0) (by c.1.0)) (chain (by (assoc p 1 d d d y a c.0)) (chain (mul_left p 1 d d (product d y a) none c.0 z) (none_mul p 1 d d c.0)))) in
-              let s : d + (pivot k - d) ≡ pivot k = omega arith in
-              let in_range = e.columns k x in
-              one_nonzero p field.above_one (same_trans (exact (sym (identity_same k))) (same_trans (same_sym (e.unit k k x x)) (same_trans (exact (ap (b k) (sym s))) (n.at 0 (pivot k - d) (omega arith) (omega arith))))))
-            (λ c. free c.0 c.1)
-            (inverse_or_kernel p d a field)))
+        let y : ℕ → ℕ → ℕ = λ i t. b k (d + t) in
+        let z : AreSame p 1 d (product d y a) none = record {
+          at = λ i j _ w.
+              let s : ℕ = total d (λ t. b k (d + t) * a t j) in
+              same_trans (same_from_negative p (b k j) s one (row_says k j x w)) (e.leading k j x (omega arith));
+        } in
+        absurd (⊎_elim
+        (λ c.
+        let n : AreSame p 1 d y none = chain (by (mul_one p 1 d y)) (chain (mul_right p 1 d d y identity (product d a c.0) (by c.1.0)) (chain (by (assoc p 1 d d d y a c.0)) (chain (mul_left p 1 d d (product d y a) none c.0 z) (none_mul p 1 d d c.0)))) in
+        let s : d + (pivot k - d) ≡ pivot k = omega arith in
+        let in_range = e.columns k x in
+        one_nonzero p field.above_one (same_trans (exact (sym (identity_same k))) (same_trans (same_sym (e.unit k k x x)) (same_trans (exact (ap (b k) (sym s))) (n.at 0 (pivot k - d) (omega arith) (omega arith))))))
+        (λ c. free c.0 c.1)
+        (inverse_or_kernel p d a field)))
         (cases_lt (pivot k) d)
 
     -- each column on the left has a pivot: the vector of one without would be killed
@@ -96,21 +96,21 @@ module _ (p d r : ℕ) (field : IsField p) (a b : ℕ → ℕ → ℕ) (pivot : 
     all_left c x = ⊎_elim
         (λ w. w)
         (λ n.
-          let s : ℕ → ℕ = λ l. kernel_matrix p r b pivot l c in
-          let low : (i : ℕ) → Same p (s (d + i)) 0 = λ i. same_trans (kernel_free p (d + d) r field b pivot e (d + i) c (λ k y q. let m = pivots_left k y in absurd (omega arith))) (exact (identity_other (d + i) c (λ q. absurd (omega arith)))) in
-          let inside : IsInKernel p r (d + d) b s = λ i y. (kernel_dies p (d + d) r field b pivot e).at i c y (omega arith) in
-          let z : IsInKernel p d d a s = λ i y.
-              let h = whole d (beside d a identity i) s in
-              let u = total-same d (λ t. beside d a identity i t * s t) (λ t. a i t * s t) (λ t m. ap (λ (q : ℕ). q * s t) (left_at d a i t m)) in
-              let w : Same p (total d (λ t. beside d a identity i (d + t) * s (d + t))) 0 = total_none p d (λ t. beside d a identity i (d + t) * s (d + t)) (λ t m. same_trans (same-scale (beside d a identity i (d + t)) (low t)) (exact (omega arith))) in
-              same_trans (same_sym (same_trans (same-add (same_refl p (total d (λ t. a i t * s t))) w) (exact (omega arith)))) (same_trans (exact (omega arith)) (back s inside i y))
-          in
-          absurd (free s (record {
-            place = c;
-            within = x;
-            nonzero = λ q. one_nonzero p field.above_one (same_trans (same_sym (same_trans (kernel_free p (d + d) r field b pivot e c c n) (exact (identity_same c)))) q);
-            kills = z;
-          })))
+        let s : ℕ → ℕ = λ l. kernel_matrix p r b pivot l c in
+        let low : (i : ℕ) → Same p (s (d + i)) 0 = λ i. same_trans (kernel_free p (d + d) r field b pivot e (d + i) c (λ k y q. let m = pivots_left k y in absurd (omega arith))) (exact (identity_other (d + i) c (λ q. absurd (omega arith)))) in
+        let inside : IsInKernel p r (d + d) b s = λ i y. (kernel_dies p (d + d) r field b pivot e).at i c y (omega arith) in
+        let z : IsInKernel p d d a s = λ i y.
+        let h = whole d (beside d a identity i) s in
+        let u = total-same d (λ t. beside d a identity i t * s t) (λ t. a i t * s t) (λ t m. ap (λ (q : ℕ). q * s t) (left_at d a i t m)) in
+        let w : Same p (total d (λ t. beside d a identity i (d + t) * s (d + t))) 0 = total_none p d (λ t. beside d a identity i (d + t) * s (d + t)) (λ t m. same_trans (same-scale (beside d a identity i (d + t)) (low t)) (exact (omega arith))) in
+        same_trans (same_sym (same_trans (same-add (same_refl p (total d (λ t. a i t * s t))) w) (exact (omega arith)))) (same_trans (exact (omega arith)) (back s inside i y))
+        in
+        absurd (free s (record {
+          place = c;
+          within = x;
+          nonzero = λ q. one_nonzero p field.above_one (same_trans (same_sym (same_trans (kernel_free p (d + d) r field b pivot e c c n) (exact (identity_same c)))) q);
+          kills = z;
+        })))
         (among r pivot c)
 
     pub block_inverts : (x : ℕ → ℕ → ℕ) → IsRightBlock d r b pivot x d → IsInverse p d a x

@@ -4,11 +4,9 @@ ghost use Rattle.field_mod.specs.Modular.{Same, minus};
 ghost use Rattle.leray_conley.specs.Echelons.{AreFree, HasEchelon, IsExtended, along, cell, kernel_matrix};
 ghost use Rattle.leray_conley.specs.Kernels.{IsInKernel};
 
-use std::alloc::{AllocError, Global};
-
-use field_mod::Field;
-
 use crate::row::Row;
+use field_mod::Field;
+use std::alloc::{AllocError, Global};
 
 /// Rows in reduced form: row k has its first entry that is not 0 in column `pivots[k]`, it is 1, and the other rows are
 /// 0 there.
@@ -117,7 +115,13 @@ impl<const P: u16> Echelon<P> {
     }
 
     /// The vector of the kernel that is 1 at column `c` and 0 at the other columns without a pivot.
-    pub fn kernel_column(&self, alloc: Global, f: Field<P>, n: usize, c: usize) -> Result<Vec<u16>, AllocError>
+    pub fn kernel_column(
+        &self,
+        alloc: Global,
+        f: Field<P>,
+        n: usize,
+        c: usize,
+    ) -> Result<Vec<u16>, AllocError>
         requires form { HasEchelon P n self.now.rows.items self.now.pivots.items }
         requires column { c < n }
         ensures len { IfOk result (λ v. length v.items ≡ n) }

@@ -5,13 +5,11 @@ ghost use Rattle.leray_conley.specs.Inverses.{IsInverse};
 ghost use Rattle.leray_conley.specs.Faults.{IsFaultOf};
 ghost use Rattle.leray_conley.specs.Tables.{entry};
 
-use std::alloc::{AllocError, Global};
-
-use field_mod::Field;
-use thiserror::Error;
-
 use crate::echelon::Echelon;
 use crate::matrix::Matrix;
+use field_mod::Field;
+use std::alloc::{AllocError, Global};
+use thiserror::Error;
 
 /// Why a matrix has no inverse, or none was found.
 #[derive(Debug, Drop, Error)]
@@ -25,7 +23,11 @@ pub enum InverseFault {
 }
 
 /// The entries beyond column `size` of rows in reduced form, in the order of their pivots.
-fn right_block<const P: u16>(alloc: Global, echelon: &Echelon<P>, size: u32) -> Result<Matrix<P>, AllocError>
+fn right_block<const P: u16>(
+    alloc: Global,
+    echelon: &Echelon<P>,
+    size: u32,
+) -> Result<Matrix<P>, AllocError>
     requires bound { size * size ≤ 16777216 }
     requires form { HasEchelon P (size + size) echelon.now.rows.items echelon.now.pivots.items }
     requires pivots { (j : ℕ) → j < size → (k : ℕ) × (k < length echelon.now.rows.items) × (slice_index echelon.now.pivots.items k ≡ j) }

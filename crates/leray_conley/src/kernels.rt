@@ -5,11 +5,9 @@ ghost use Rattle.leray_conley.specs.Products.{transpose};
 ghost use Rattle.leray_conley.specs.Ranks.{IsRank};
 ghost use Rattle.leray_conley.specs.Tables.{entry};
 
-use std::alloc::{AllocError, Global};
-
-use field_mod::Field;
-
 use crate::matrix::Matrix;
+use field_mod::Field;
+use std::alloc::{AllocError, Global};
 
 impl<const P: u16> Matrix<P> {
     /// The rank: the number of vectors in a basis of the image.

@@ -11,5 +11,10 @@ mod reduce;
 mod row;
 
 pub use inverse::InverseFault;
-pub use laws::{inverse_or_kernel, right_inverses_are_left, splitting_ranks_agree, splittings_exist};
+pub use laws::{
+    inverse_or_kernel, right_inverses_are_left, splitting_ranks_agree, splittings_exist,
+};
 pub use matrix::Matrix;
+
+#[cfg(test)]
+mod tests;

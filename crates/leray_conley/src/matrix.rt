@@ -3,9 +3,8 @@ ghost use Rattle.std.specs.Prelude.{◌≡◌, ℕ, ◌+◌, ◌*◌, ◌%◌, �
 ghost use Rattle.leray_conley.specs.Tables.{IsTable, entry};
 ghost use Rattle.leray_conley.specs.Products.{trace};
 
-use std::marker::Model;
-
 use field_mod::Field;
+use std::marker::Model;
 
 /// A matrix over the field of `P` elements, seen as a number of rows, a number of columns and the list of its entries
 /// by rows. The entries are below `P`, and there are at most 16,777,216 of them.

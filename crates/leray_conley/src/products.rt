@@ -4,11 +4,9 @@ ghost use Rattle.field_mod.specs.Sums.{total};
 ghost use Rattle.leray_conley.specs.Products.{product, transpose};
 ghost use Rattle.leray_conley.specs.Tables.{HasEntries, entry};
 
-use std::alloc::{AllocError, Global};
-
-use field_mod::Field;
-
 use crate::matrix::Matrix;
+use field_mod::Field;
+use std::alloc::{AllocError, Global};
 
 /// The sum of the products of the numbers of two rows.
 fn dot(a: &[u16], b: &[u16]) -> u64
@@ -68,7 +66,12 @@ impl<const P: u16> Matrix<P> {
 
     /// The product of this matrix and another, which has as many rows as this one has columns; the product has at most
     /// 16,777,216 entries.
-    pub fn times(&self, alloc: Global, _f: Field<P>, other: &Matrix<P>) -> Result<Matrix<P>, AllocError>
+    pub fn times(
+        &self,
+        alloc: Global,
+        _f: Field<P>,
+        other: &Matrix<P>,
+    ) -> Result<Matrix<P>, AllocError>
         requires fits { self.now.columns ≡ other.now.rows }
         requires bound { self.now.rows * other.now.columns ≤ 16777216 }
         ensures { IfOk result

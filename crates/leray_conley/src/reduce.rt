@@ -6,13 +6,11 @@ ghost use Rattle.leray_conley.specs.Rows.{IsRowOf};
 ghost use Rattle.leray_conley.specs.Splitting.{beside};
 ghost use Rattle.leray_conley.specs.Tables.{entry};
 
-use std::alloc::{AllocError, Global};
-
-use field_mod::Field;
-
 use crate::echelon::Echelon;
 use crate::matrix::Matrix;
 use crate::row::Row;
+use field_mod::Field;
+use std::alloc::{AllocError, Global};
 
 impl<const P: u16> Matrix<P> {
     /// Row `i`, and row `i` of the identity with `extra` columns beside it.
@@ -29,7 +27,12 @@ impl<const P: u16> Matrix<P> {
     }
 
     /// Reduces the rows of this matrix with those of the identity with `extra` columns beside them.
-    pub(crate) fn reduce(&self, alloc: Global, f: Field<P>, extra: u32) -> Result<Echelon<P>, AllocError>
+    pub(crate) fn reduce(
+        &self,
+        alloc: Global,
+        f: Field<P>,
+        extra: u32,
+    ) -> Result<Echelon<P>, AllocError>
         ensures { IfOk result (λ e. IsReduction P (self.now.columns + extra) self.now.rows
             (beside self.now.columns (entry self.now) identity) e.rows.items e.pivots.items) }
     {

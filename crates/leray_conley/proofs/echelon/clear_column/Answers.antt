@@ -26,10 +26,10 @@ loop-k-preserved g c =
       widths = λ i l. replaced [] rows k i new (λ r. length r ≡ length row) lk (λ m. c.add_scaled.ensures.len ∙ wide) (λ n. inv.widths i l);
       done = λ i j l lj. replaced [] rows k i new (λ r. Same p (get_or r j 0) (cell old i j + minus p (cell old i c.args.c) * get_or row j 0)) lk
           (λ m.
-            let o = get_or c.index_mut-other.result.now in
-            let a = added_at p (o j 0) (get_or row j 0) (get_or row j 0) (get_or new j 0) c.neg-by.result (c.add_scaled.ensures.value j (omega arith)) refl in
-            let b = by_minus p c.entry.result (o c.args.c 0) c.neg-by.result c.entry.ensures.below c.neg-by.ensures.value c.entry.ensures.value in
-            same_trans a (same_trans (same-add (same_refl p (o j 0)) (same-mul b (same_refl p (get_or row j 0)))) (exact (ap (λ (r : List ℕ). get_or r j 0 + minus p (get_or r c.args.c 0) * get_or row j 0) (s ∙ sym (ap (λ (z : ℕ). get_or old z []) m))))))
+          let o = get_or c.index_mut-other.result.now in
+          let a = added_at p (o j 0) (get_or row j 0) (get_or row j 0) (get_or new j 0) c.neg-by.result (c.add_scaled.ensures.value j (omega arith)) refl in
+          let b = by_minus p c.entry.result (o c.args.c 0) c.neg-by.result c.entry.ensures.below c.neg-by.ensures.value c.entry.ensures.value in
+          same_trans a (same_trans (same-add (same_refl p (o j 0)) (same-mul b (same_refl p (get_or row j 0)))) (exact (ap (λ (r : List ℕ). get_or r j 0 + minus p (get_or r c.args.c 0) * get_or row j 0) (s ∙ sym (ap (λ (z : ℕ). get_or old z []) m))))))
           (λ n. inv.done i j (omega arith) lj);
       left = λ i l. replaced [] rows k i new (λ r. r ≡ get_or old i []) lk (λ m. absurd (omega arith)) (λ n. inv.left i (omega arith));
     }

@@ -8,7 +8,7 @@ pub returns-in_default-clause-kernel : goal.returns-in_default-clause-kernel
 returns-in_default-clause-kernel g c =
     let s = c.args.self.now in
     let h : IsCleared g.row.P (length c.args.row) s.rows.items s.pivots.items c.args.row c.clear_row.new.row =
-        record { len = c.clear_row.ensures.len; zero_at = c.clear_row.ensures.cleared; kernel = c.clear_row.ensures.kernel } in
+    record { len = c.clear_row.ensures.len; zero_at = c.clear_row.ensures.cleared; kernel = c.clear_row.ensures.kernel } in
     nothing_left g.row.P (length c.args.row) s.rows.items s.pivots.items c.args.row c.clear_row.new.row h (λ j l. c.in_default.ensures j (let e = c.clear_row.ensures.len in omega arith))
 
 -- what the steps before the two pushes have shown

@@ -16,6 +16,6 @@ returns g c =
     (λ o. MatchOption o ((v : ℕ → ℕ) → IsKilled p t.rows t.columns (entry t) v → ⊥) (λ v. IsKernelVector p t.rows t.columns (entry t) v.items))
     (λ o. MatchOption o ((v : ℕ → ℕ) → IsKilled p a.columns a.rows (transpose (entry a)) v → ⊥) (λ v. IsKernelVector p a.columns a.rows (transpose (entry a)) v.items))
     (λ o k. option_weaker o ((v : ℕ → ℕ) → IsKilled p t.rows t.columns (entry t) v → ⊥) ((v : ℕ → ℕ) → IsKilled p a.columns a.rows (transpose (entry a)) v → ⊥)
-      (λ v. IsKernelVector p t.rows t.columns (entry t) v.items) (λ v. IsKernelVector p a.columns a.rows (transpose (entry a)) v.items)
-      (λ none v kv. none v (killed_entries p t h v kv)) (λ v w. vector_entries p t h v.items w) k)
+    (λ v. IsKernelVector p t.rows t.columns (entry t) v.items) (λ v. IsKernelVector p a.columns a.rows (transpose (entry a)) v.items)
+    (λ none v kv. none v (killed_entries p t h v kv)) (λ v w. vector_entries p t h v.items w) k)
     c.kernel_vector-2.ensures
