@@ -5,12 +5,15 @@ pub mod Echelons
 pub mod Existence
 pub mod Filling
 pub mod Free
+pub mod Halves
 pub mod Insertions
 pub mod Inverses
+pub mod Powers
 pub mod Reduced
 pub mod Reductions
 pub mod RightBlocks
 pub mod Similar
 pub mod Solutions
+pub mod Splitters
 pub mod Totals
 pub mod Transfers
