@@ -1,5 +1,5 @@
 -- Lists that are filled row by row
-use Rattle.std.proofs.Common.{◌≡◌, ℕ, ◌+◌, ◌-◌, ◌*◌, ◌/◌, ◌%◌, ◌<◌, ◌≤◌, List, [], ◌∷◌, ◌++◌, length, get_or, refl, sym, ap, ◌∙◌, arith, ⊎_elim}
+use Rattle.std.proofs.Common.{◌≡◌, ℕ, ◌+◌, ◌-◌, ◌*◌, ◌/◌, ◌%◌, ◌<◌, ◌≤◌, List, [], ◌∷◌, ◌++◌, length, get_or, refl, sym, ap, ◌∙◌, arith, ⊎_elim, subst}
 use Rattle.std.proofs.lemmas.Bool.{cases_lt}
 use Rattle.std.proofs.lemmas.List.{get_or_append_left, get_or-append_right, get_or-append-add, length_push, length-append}
 use Rattle.std.proofs.lemmas.Nat.{div-mul-add, mod-mul-add, mul-add-lt}
@@ -73,3 +73,19 @@ pub block_read : (d r j : ℕ) (b : ℕ → ℕ → ℕ) (pivot : ℕ → ℕ) (
 block_read d r j b pivot es m h e ec ee = record {
   rows = λ q l. let w = h.rows q (omega arith) in (w.0, w.1, w.2, (λ i y. ap (λ (x : ℕ). get_or m.entries (q * x + i) 0) ec ∙ ap (λ (x : List ℕ). get_or x (q * d + i) 0) ee ∙ w.3 i y));
 }
+
+-- rows of d numbers each, one after the other: row q has Q q i of its number at i
+pub rows_more : (d j : ℕ) (Q : ℕ → ℕ → ℕ → Type 0) (es ys : List ℕ) → ((q i : ℕ) → q < j → i < d → Q q i (get_or es (q * d + i) 0)) → length es ≡ j * d
+    → ((i : ℕ) → i < d → Q j i (get_or ys i 0)) → (q i : ℕ) → q < j + 1 → i < d → Q q i (get_or (es ++ ys) (q * d + i) 0)
+rows_more d j Q es ys h e at q i l y = ⊎_elim
+    (λ m. let a : get_or (es ++ ys) (q * d + i) 0 ≡ get_or es (q * d + i) 0 = get_or_append_left es ys 0 (q * d + i) (let z = mul-add-lt q d i j m y in omega arith) in subst (Q q i) (sym a) (h q i m y))
+    (λ (m : q ≡ j).
+      let b : get_or (es ++ ys) (j * d + i) 0 ≡ get_or ys i 0 = ap (λ (x : ℕ). get_or (es ++ ys) (x + i) 0) (sym e) ∙ get_or-append-add es ys i 0 in
+      subst (λ (x : ℕ). Q x i (get_or (es ++ ys) (x * d + i) 0)) (sym m) (subst (Q j i) (sym b) (at i y)))
+    (below_cases q j l)
+
+pub rows_read : (d j n : ℕ) (Q : ℕ → ℕ → ℕ → Type 0) (es : List ℕ) (m : Table) → ((q i : ℕ) → q < j → i < d → Q q i (get_or es (q * d + i) 0)) → j ≡ n → m.columns ≡ d → m.entries ≡ es
+    → (q i : ℕ) → q < n → i < d → Q q i (entry m q i)
+rows_read d j n Q es m h e ec ee q i l y =
+    let a : entry m q i ≡ get_or es (q * d + i) 0 = ap (λ (x : ℕ). get_or m.entries (q * x + i) 0) ec ∙ ap (λ (x : List ℕ). get_or x (q * d + i) 0) ee in
+    subst (Q q i) (sym a) (h q i (omega arith) y)

@@ -1,5 +1,5 @@
 -- The splitting by a high power of a square matrix: its image, from the pivots, and its kernel
-use Rattle.std.proofs.Common.{◌≡◌, ◌≢◌, ℕ, zero, suc, ◌+◌, ◌-◌, ◌*◌, ◌<◌, ◌≤◌, ◌⊎◌, inl, inr, refl, sym, ap, ◌∙◌, arith, ⊎_elim, Bool, cond, ltb, lt-ltb, le-ltb}
+use Rattle.std.proofs.Common.{◌≡◌, ◌≢◌, ℕ, zero, suc, ◌+◌, ◌-◌, ◌*◌, ◌<◌, ◌≤◌, ◌⊎◌, inl, inr, refl, sym, ap, ◌∙◌, arith, ⊎_elim, Bool, cond, ltb, lt-ltb, le-ltb, List, length, get_or}
 use Rattle.std.proofs.lemmas.Bool.{cases_lt}
 use Rattle.field_mod.specs.Sums.{total}
 use Rattle.field_mod.specs.Modular.{Same, IsField}
@@ -8,13 +8,14 @@ use Rattle.field_mod.proofs.Modular.{same_refl, same_sym, same_trans, same-add, 
 use Rattle.leray_conley.specs.Products.{product, identity, power, none, AreSame}
 use Rattle.leray_conley.specs.Kernels.{IsInKernel, IsKilled}
 use Rattle.leray_conley.specs.Inverses.{IsInverse}
-use Rattle.leray_conley.specs.Splitting.{beside, Splitting, IsLeraySplitting}
-use Rattle.leray_conley.specs.Echelons.{IsEchelon, kernel_matrix}
+use Rattle.leray_conley.specs.Splitting.{beside, IsHighPower, IsSplit}
+use Rattle.leray_conley.specs.Tables.{Table, entry}
+use Rattle.leray_conley.specs.Echelons.{AreFree, IsEchelon, IsReduction, cell, kernel_matrix}
 use Rattle.leray_conley.proofs.Algebra.{plus, by, chain, add, itself, mul_left, mul_right, assoc, mul_sum, one_mul, mul_one, mul_none, sum_none}
 use Rattle.leray_conley.proofs.Echelons.{identity_same, identity_other, same_or_not}
 use Rattle.leray_conley.proofs.Existence.{total-split}
 use Rattle.leray_conley.proofs.Powers.{power-add, power_turned, power_dies, power_stays}
-use Rattle.leray_conley.proofs.Reduced.{among, column, independent, kernel_free, picks, spans, special_dies}
+use Rattle.leray_conley.proofs.Reduced.{among, at_pivots, column, independent, kernel_free, picks, spans, special_dies}
 use Rattle.leray_conley.proofs.Solutions.{solve}
 use Rattle.leray_conley.proofs.Totals.{exact, total-at, total_none}
 
@@ -157,3 +158,40 @@ module _ (p d e r s : ℕ) (field : IsField p) (a m b : ℕ → ℕ → ℕ) (pi
         let v = product r (picks pivot) (column x) in
         let e1 : AreSame p d 1 (product r image (column x)) (product d m v) = chain (mul_left p d r 1 image basis (column x) is_image) (assoc p d d r 1 m (picks pivot) (column x)) in
         free_image x (chain (assoc p d d r 1 m (picks pivot) (column x)) (after v (chain (by (mul_right p d d 1 a (product r image (column x)) (product d m v) e1)) z)))
+
+    -- all that is told of the two parts
+    pub split : IsSplit p d r s a image kernel
+    split = record { sizes = sizes; unkilled = split_unkilled; dies = kernel_powers; map = product d b (product d a (picks pivot)); carried = image_carried; faithful = image_faithful }
+
+-- ---- the same over lists
+
+module _ (p d : ℕ) (field : IsField p) (a : ℕ → ℕ → ℕ) (m : Table) (rows : List (List ℕ)) (pivots free : List ℕ) (power_of : IsHighPower p d a m) (h : IsReduction p d d (entry m) rows pivots) (f : AreFree d pivots free) where
+  splitter : IsSplitter p d power_of.exponent (length rows) (length free) a (entry m) (cell rows) (λ k. get_or pivots k 0) (λ t. get_or free t 0)
+  splitter = let q = h.form.sizes in record {
+    high = power_of.high;
+    is_power = power_of.is_power;
+    echelon = h.form.echelon;
+    forth = h.forth;
+    back = h.back;
+    within = f.within;
+    apart = λ t k x y. f.apart t k x (omega arith);
+    every = λ c x y. f.every c x (λ k z. y k (omega arith));
+    distinct = f.distinct;
+  }
+
+  pub counts : length rows + length free ≡ d
+  counts =
+      let piv : ℕ → ℕ = λ k. get_or pivots k 0 in
+      let fr : ℕ → ℕ = λ t. get_or free t 0 in
+      sizes p d power_of.exponent (length rows) (length free) field a (entry m) (cell rows) piv fr splitter (product d (entry m) (picks piv)) (λ i t. kernel_matrix p (length rows) (cell rows) piv i (fr t))
+      (itself p d (length rows) (product d (entry m) (picks piv))) (itself p d (length free) (λ i t. kernel_matrix p (length rows) (cell rows) piv i (fr t)))
+
+  pub parts_split : (image kernel : ℕ → ℕ → ℕ) → ((i k : ℕ) → i < d → k < length rows → image i k ≡ entry m i (get_or pivots k 0))
+      → ((i t : ℕ) → i < d → t < length free → Same p (kernel i t) (kernel_matrix p (length rows) (cell rows) (λ k. get_or pivots k 0) i (get_or free t 0)))
+      → IsSplit p d (length rows) (length free) a image kernel
+  parts_split image kernel hi hk =
+      let piv : ℕ → ℕ = λ k. get_or pivots k 0 in
+      let fr : ℕ → ℕ = λ t. get_or free t 0 in
+      split p d power_of.exponent (length rows) (length free) field a (entry m) (cell rows) piv fr splitter image kernel
+      (record { at = λ i k x y. exact (hi i k x y ∙ sym (at_pivots p d (length rows) field (cell rows) piv h.form.echelon (entry m) i k y)) })
+      (record { at = λ i t x y. hk i t x y })

@@ -4,6 +4,7 @@ use Rattle.std.specs.Prelude.{◌≡◌, ℕ, ◌+◌, ◌-◌, ◌<◌, ◌≤�
 use Rattle.field_mod.specs.Modular.{Same, IsField}
 use Rattle.leray_conley.specs.Products.{product, identity, none, power, AreSame}
 use Rattle.leray_conley.specs.Kernels.{IsKilled}
+use Rattle.leray_conley.specs.Tables.{Table, entry}
 
 -- a, which has r columns, and b side by side
 abbrev pub beside : ℕ → (ℕ → ℕ → ℕ) → (ℕ → ℕ → ℕ) → ℕ → ℕ → ℕ
@@ -47,3 +48,11 @@ SplittingRanksAgree =
     (p d : ℕ) (a b s t : ℕ → ℕ → ℕ) (x y : Splitting) → IsField p
     → AreSame p d d (product d s t) identity → AreSame p d d (product d a s) (product d s b)
     → IsLeraySplitting p d a x → IsLeraySplitting p d b y → x.rank ≡ y.rank
+
+-- m is a power of the square matrix a of size d, of an exponent that is not below d
+pub record IsHighPower (p d : ℕ) (a : ℕ → ℕ → ℕ) (m : Table) : Type 0 where
+  pub has_rows : m.rows ≡ d
+  pub has_columns : m.columns ≡ d
+  pub exponent : ℕ
+  pub high : d ≤ exponent
+  pub is_power : AreSame p d d (entry m) (power d a exponent)

@@ -3,6 +3,7 @@ ghost use Rattle.std.specs.Prelude.{◌≡◌, ℕ, ◌+◌, ◌*◌, ◌<◌, �
 ghost use Rattle.leray_conley.specs.Echelons.{HasEchelon, IsRightBlock, cell};
 ghost use Rattle.leray_conley.specs.Inverses.{IsInverse};
 ghost use Rattle.leray_conley.specs.Faults.{IsFaultOf};
+ghost use Rattle.leray_conley.specs.Kernels.{IsKilled};
 ghost use Rattle.leray_conley.specs.Tables.{entry};
 
 use crate::echelon::Echelon;
@@ -74,5 +75,20 @@ impl<const P: u16> Matrix<P> {
         let size = self.rows();
         let echelon = self.reduce(alloc, f, size)?;
         Ok(right_block(alloc, &echelon, size)?)
+    }
+
+    /// The inverse of a square matrix that sends no vector but 0 to 0.
+    pub(crate) fn known_inverse(&self, alloc: Global, f: Field<P>) -> Result<Matrix<P>, AllocError>
+        requires square { self.now.rows ≡ self.now.columns }
+        requires unkilled { (v : ℕ → ℕ) → IsKilled P self.now.rows self.now.rows (entry self.now) v → ⊥ }
+        ensures rows { IfOk result (λ m. m.rows ≡ self.now.rows) }
+        ensures columns { IfOk result (λ m. m.columns ≡ self.now.rows) }
+        ensures inverse { IfOk result (λ m. IsInverse P self.now.rows (entry self.now) (entry m)) }
+    {
+        match self.inverse(alloc, f) {
+            Ok(inverse) => Ok(inverse),
+            Err(InverseFault::NoMemory) => Err(AllocError),
+            Err(InverseFault::Singular { .. }) => unreachable!(),
+        }
     }
 }

@@ -5,7 +5,9 @@ mod echelon;
 mod inverse;
 mod kernels;
 mod laws;
+mod leray;
 mod matrix;
+mod parts;
 mod products;
 mod reduce;
 mod row;
@@ -14,6 +16,7 @@ pub use inverse::InverseFault;
 pub use laws::{
     inverse_or_kernel, right_inverses_are_left, splitting_ranks_agree, splittings_exist,
 };
+pub use leray::Leray;
 pub use matrix::Matrix;
 
 #[cfg(test)]

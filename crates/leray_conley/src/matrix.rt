@@ -10,9 +10,9 @@ use std::marker::Model;
 /// by rows. The entries are below `P`, and there are at most 16,777,216 of them.
 #[derive(Drop)]
 pub struct Matrix<const P: u16> {
-    rows: u32,
-    columns: u32,
-    entries: Vec<u16>,
+    pub(crate) rows: u32,
+    pub(crate) columns: u32,
+    pub(crate) entries: Vec<u16>,
 }
 
 impl<const P: u16> Model for Matrix<P> {
