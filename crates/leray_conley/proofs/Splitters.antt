@@ -1,5 +1,5 @@
 -- The splitting by a high power of a square matrix: its image, from the pivots, and its kernel
-use Rattle.std.proofs.Common.{◌≡◌, ◌≢◌, ℕ, zero, suc, ◌+◌, ◌-◌, ◌*◌, ◌<◌, ◌≤◌, ◌⊎◌, inl, inr, refl, sym, ap, ◌∙◌, arith, ⊎_elim, Bool, cond, ltb, lt-ltb, le-ltb, List, length, get_or}
+use Rattle.std.proofs.Common.{◌≡◌, ◌≢◌, ℕ, zero, suc, ◌+◌, ◌-◌, ◌*◌, ◌<◌, ◌≤◌, ◌⊎◌, inl, inr, refl, sym, ap, ◌∙◌, arith, ⊎_elim, Bool, cond, ltb, lt-ltb, le-ltb, List, length, get_or, subst}
 use Rattle.std.proofs.lemmas.Bool.{cases_lt}
 use Rattle.field_mod.specs.Sums.{total}
 use Rattle.field_mod.specs.Modular.{Same, IsField}
@@ -16,6 +16,7 @@ use Rattle.leray_conley.proofs.Echelons.{identity_same, identity_other, same_or_
 use Rattle.leray_conley.proofs.Existence.{total-split}
 use Rattle.leray_conley.proofs.Powers.{power-add, power_turned, power_dies, power_stays}
 use Rattle.leray_conley.proofs.Reduced.{among, at_pivots, column, independent, kernel_free, picks, spans, special_dies}
+use Rattle.leray_conley.proofs.Reductions.{narrowed}
 use Rattle.leray_conley.proofs.Solutions.{solve}
 use Rattle.leray_conley.proofs.Totals.{exact, total-at, total_none}
 
@@ -195,3 +196,8 @@ module _ (p d : ℕ) (field : IsField p) (a : ℕ → ℕ → ℕ) (m : Table) (
       split p d power_of.exponent (length rows) (length free) field a (entry m) (cell rows) piv fr splitter image kernel
       (record { at = λ i k x y. exact (hi i k x y ∙ sym (at_pivots p d (length rows) field (cell rows) piv h.form.echelon (entry m) i k y)) })
       (record { at = λ i t x y. hk i t x y })
+
+-- the reduction of a power by the size that it has
+pub reduction_at : (p d : ℕ) (a : ℕ → ℕ → ℕ) (m : Table) (rows : List (List ℕ)) (pivots : List ℕ) → IsHighPower p d a m → IsReduction p (m.columns + 0) m.rows (beside m.columns (entry m) identity) rows pivots → IsReduction p d d (entry m) rows pivots
+reduction_at p d a m rows pivots q h =
+    subst (λ (x : ℕ). IsReduction p d x (entry m) rows pivots) q.has_rows (subst (λ (x : ℕ). IsReduction p x m.rows (entry m) rows pivots) q.has_columns (narrowed p m.columns m.rows (entry m) rows pivots h))
