@@ -80,8 +80,8 @@ pub rows_more : (d j : ℕ) (Q : ℕ → ℕ → ℕ → Type 0) (es ys : List �
 rows_more d j Q es ys h e at q i l y = ⊎_elim
     (λ m. let a : get_or (es ++ ys) (q * d + i) 0 ≡ get_or es (q * d + i) 0 = get_or_append_left es ys 0 (q * d + i) (let z = mul-add-lt q d i j m y in omega arith) in subst (Q q i) (sym a) (h q i m y))
     (λ (m : q ≡ j).
-      let b : get_or (es ++ ys) (j * d + i) 0 ≡ get_or ys i 0 = ap (λ (x : ℕ). get_or (es ++ ys) (x + i) 0) (sym e) ∙ get_or-append-add es ys i 0 in
-      subst (λ (x : ℕ). Q x i (get_or (es ++ ys) (x * d + i) 0)) (sym m) (subst (Q j i) (sym b) (at i y)))
+    let b : get_or (es ++ ys) (j * d + i) 0 ≡ get_or ys i 0 = ap (λ (x : ℕ). get_or (es ++ ys) (x + i) 0) (sym e) ∙ get_or-append-add es ys i 0 in
+    subst (λ (x : ℕ). Q x i (get_or (es ++ ys) (x * d + i) 0)) (sym m) (subst (Q j i) (sym b) (at i y)))
     (below_cases q j l)
 
 pub rows_read : (d j n : ℕ) (Q : ℕ → ℕ → ℕ → Type 0) (es : List ℕ) (m : Table) → ((q i : ℕ) → q < j → i < d → Q q i (get_or es (q * d + i) 0)) → j ≡ n → m.columns ≡ d → m.entries ≡ es

@@ -1,4 +1,5 @@
 pub mod Algebra
+pub mod Assembled
 pub mod Blocks
 pub mod Complements
 pub mod Echelons

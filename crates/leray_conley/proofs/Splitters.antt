@@ -81,11 +81,11 @@ module _ (p d e r s : ℕ) (field : IsField p) (a m b : ℕ → ℕ → ℕ) (pi
         let low : (k : ℕ) → k < r → Same p (v k) 0 = free_image v (chain (assoc p d d r 1 m (picks pivot) x) gone) in
         let ky0 : AreSame p d 1 ky none = chain (by (chain (add (chain bx gone) (itself p d 1 ky)) (record { at = λ i j u w. exact (omega arith) }))) z in
         let high : (t : ℕ) → t < s → Same p (v (r + t)) 0 = λ t l.
-            let row : (u : ℕ) → u < s → Same p (kernel (f t) u) (identity t u) = λ u k.
-                same_trans (is_kernel.at (f t) u (h.within t l) k) (same_trans (kernel_free p d r field b pivot h.echelon (f t) (f u) (λ q w. h.apart t q l w))
-                (⊎_elim (λ q. exact (ap (identity (f t)) (ap f (sym q)) ∙ identity_same (f t) ∙ sym (ap (identity t) (sym q) ∙ identity_same t))) (λ q. exact (identity_other (f t) (f u) (λ w. q (h.distinct t u l k (sym w))) ∙ sym (identity_other t u (λ w. q (sym w))))) (same_or_not t u)))
-            in
-            same_trans (exact (sym (total-at s t (λ u. v (r + u)) l))) (same_trans (same_sym (total_same p s (λ u. kernel (f t) u * v (r + u)) (λ u. identity t u * v (r + u)) (λ u k. same-mul (row u k) (same_refl p (v (r + u)))))) (ky0.at (f t) 0 (h.within t l) (omega arith)))
+        let row : (u : ℕ) → u < s → Same p (kernel (f t) u) (identity t u) = λ u k.
+        same_trans (is_kernel.at (f t) u (h.within t l) k) (same_trans (kernel_free p d r field b pivot h.echelon (f t) (f u) (λ q w. h.apart t q l w))
+        (⊎_elim (λ q. exact (ap (identity (f t)) (ap f (sym q)) ∙ identity_same (f t) ∙ sym (ap (identity t) (sym q) ∙ identity_same t))) (λ q. exact (identity_other (f t) (f u) (λ w. q (h.distinct t u l k (sym w))) ∙ sym (identity_other t u (λ w. q (sym w))))) (same_or_not t u)))
+        in
+        same_trans (exact (sym (total-at s t (λ u. v (r + u)) l))) (same_trans (same_sym (total_same p s (λ u. kernel (f t) u * v (r + u)) (λ u. identity t u * v (r + u)) (λ u k. same-mul (row u k) (same_refl p (v (r + u)))))) (ky0.at (f t) 0 (h.within t l) (omega arith)))
         in
         λ l k. ⊎_elim (low l) (λ q. let w : r + (l - r) ≡ l = omega arith in same_trans (exact (ap v (sym w))) (high (l - r) (omega arith))) (cases_lt l r)
 
@@ -101,36 +101,36 @@ module _ (p d e r s : ℕ) (field : IsField p) (a m b : ℕ → ℕ → ℕ) (pi
     pub sizes : r + s ≡ d
     sizes = ⊎_elim
         (λ l.
-          -- more columns than rows
-          let q = solve p field d (r + s) l (beside r image kernel) in
-          let v : ℕ → ℕ = q.at in
-          absurd (q.nonzero (split_free v (record { at = λ i j x y. same_trans (exact (sym (beside_sum i v (r + s) refl) ∙ total-same (r + s) (λ l. beside r image kernel i l * v l) (λ l. v l * beside r image kernel i l) (λ l _. omega arith))) (q.solves i x) }) q.place q.within)))
+        -- more columns than rows
+        let q = solve p field d (r + s) l (beside r image kernel) in
+        let v : ℕ → ℕ = q.at in
+        absurd (q.nonzero (split_free v (record { at = λ i j x y. same_trans (exact (sym (beside_sum i v (r + s) refl) ∙ total-same (r + s) (λ l. beside r image kernel i l * v l) (λ l. v l * beside r image kernel i l) (λ l _. omega arith))) (q.solves i x) }) q.place q.within)))
         (λ l. ⊎_elim
-          (λ k.
-            -- fewer: a vector that is 0 at each column
-            let q = solve p field (r + s) d k (λ i j. identity (cond (ltb i r) (pivot i) (f (i - r))) j) in
-            let v : ℕ → ℕ = q.at in
-            let at : (i : ℕ) → i < r + s → cond (ltb i r) (pivot i) (f (i - r)) < d → Same p (v (cond (ltb i r) (pivot i) (f (i - r)))) 0 = λ i x y.
-                let c : ℕ = cond (ltb i r) (pivot i) (f (i - r)) in
-                same_trans (exact (sym (total-at d c v y) ∙ total-same d (λ j. identity c j * v j) (λ j. v j * identity c j) (λ j _. omega arith))) (q.solves i x)
-            in
-            let zero_at : (c : ℕ) → c < d → Same p (v c) 0 = λ c y. ⊎_elim
-                (λ w.
-                  let t : cond (ltb w.0 r) (pivot w.0) (f (w.0 - r)) ≡ c = ap (λ (z : Bool). cond z (pivot w.0) (f (w.0 - r))) (lt-ltb w.0 r w.1) ∙ w.2 in
-                  let u = w.1 in
-                  same_trans (exact (ap v (sym t))) (at w.0 (omega arith) (omega arith)))
-                (λ w.
-                  let g = h.every c y w in
-                  let u = g.1 in
-                  let n : r + g.0 - r ≡ g.0 = omega arith in
-                  let b = le-ltb (r + g.0) r (omega arith) in
-                  let t : cond (ltb (r + g.0) r) (pivot (r + g.0)) (f (r + g.0 - r)) ≡ c = ap (λ (z : Bool). cond z (pivot (r + g.0)) (f (r + g.0 - r))) b ∙ ap f n ∙ g.2 in
-                  same_trans (exact (ap v (sym t))) (at (r + g.0) (omega arith) (omega arith)))
-                (among r pivot c)
-            in
-            absurd (q.nonzero (zero_at q.place q.within)))
-          (λ k. omega arith)
-          (cases_lt (r + s) d))
+        (λ k.
+        -- fewer: a vector that is 0 at each column
+        let q = solve p field (r + s) d k (λ i j. identity (cond (ltb i r) (pivot i) (f (i - r))) j) in
+        let v : ℕ → ℕ = q.at in
+        let at : (i : ℕ) → i < r + s → cond (ltb i r) (pivot i) (f (i - r)) < d → Same p (v (cond (ltb i r) (pivot i) (f (i - r)))) 0 = λ i x y.
+        let c : ℕ = cond (ltb i r) (pivot i) (f (i - r)) in
+        same_trans (exact (sym (total-at d c v y) ∙ total-same d (λ j. identity c j * v j) (λ j. v j * identity c j) (λ j _. omega arith))) (q.solves i x)
+        in
+        let zero_at : (c : ℕ) → c < d → Same p (v c) 0 = λ c y. ⊎_elim
+        (λ w.
+        let t : cond (ltb w.0 r) (pivot w.0) (f (w.0 - r)) ≡ c = ap (λ (z : Bool). cond z (pivot w.0) (f (w.0 - r))) (lt-ltb w.0 r w.1) ∙ w.2 in
+        let u = w.1 in
+        same_trans (exact (ap v (sym t))) (at w.0 (omega arith) (omega arith)))
+        (λ w.
+        let g = h.every c y w in
+        let u = g.1 in
+        let n : r + g.0 - r ≡ g.0 = omega arith in
+        let b = le-ltb (r + g.0) r (omega arith) in
+        let t : cond (ltb (r + g.0) r) (pivot (r + g.0)) (f (r + g.0 - r)) ≡ c = ap (λ (z : Bool). cond z (pivot (r + g.0)) (f (r + g.0 - r))) b ∙ ap f n ∙ g.2 in
+        same_trans (exact (ap v (sym t))) (at (r + g.0) (omega arith) (omega arith)))
+        (among r pivot c)
+        in
+        absurd (q.nonzero (zero_at q.place q.within)))
+        (λ k. omega arith)
+        (cases_lt (r + s) d))
         (cases_lt d (r + s))
 
     -- so that the square matrix of both kills nothing

@@ -7,12 +7,10 @@ ghost use Rattle.leray_conley.specs.Products.{AreSame};
 ghost use Rattle.leray_conley.specs.Splitting.{IsHighPower, IsLeraySplitting, IsSplit};
 ghost use Rattle.leray_conley.specs.Tables.{HasEntries, entry};
 
-use std::alloc::{AllocError, Global};
-
-use field_mod::Field;
-
 use crate::echelon::Echelon;
 use crate::matrix::Matrix;
+use field_mod::Field;
+use std::alloc::{AllocError, Global};
 
 /// The Leray splitting of a square matrix of size d: the columns of `image` and of `kernel` are together a basis of the
 /// space, the power d sends those of `kernel` to 0, and the matrix maps those of `image` by `reduced`, which is
@@ -39,7 +37,13 @@ struct Parts<const P: u16> {
 }
 
 /// The vectors of the kernel that belong to the columns without a pivot, as rows.
-fn kernel_rows<const P: u16>(alloc: Global, f: Field<P>, echelon: &Echelon<P>, size: u32, free: &[usize]) -> Result<Matrix<P>, AllocError>
+fn kernel_rows<const P: u16>(
+    alloc: Global,
+    f: Field<P>,
+    echelon: &Echelon<P>,
+    size: u32,
+    free: &[usize],
+) -> Result<Matrix<P>, AllocError>
     requires form { HasEchelon P size echelon.now.rows.items echelon.now.pivots.items }
     requires within { (t : ℕ) → t < length free.now → slice_index free.now t < size }
     requires few { length free.now ≤ size }
@@ -78,6 +82,7 @@ impl<const P: u16> Matrix<P> {
     /// The image and the kernel of a high power.
     fn parts(&self, alloc: Global, f: Field<P>) -> Result<Parts<P>, AllocError>
         requires square { self.now.rows ≡ self.now.columns }
+        ensures bound { IfOk result (λ _. self.now.rows * self.now.rows ≤ 16777216) }
         ensures image_rows { IfOk result (λ s. s.image.rows ≡ self.now.rows) }
         ensures kernel_rows { IfOk result (λ s. s.kernel.rows ≡ self.now.rows) }
         ensures split { IfOk result (λ s. IsSplit P self.now.rows s.image.columns s.kernel.columns (entry self.now) (entry s.image) (entry s.kernel)) }

@@ -3,9 +3,8 @@ ghost use Rattle.std.specs.Prelude.{◌≡◌, ℕ, ◌+◌, ◌*◌, ◌^◌, �
 ghost use Rattle.leray_conley.specs.Splitting.{beside};
 ghost use Rattle.leray_conley.specs.Tables.{HasEntries, entry};
 
-use std::alloc::{AllocError, Global};
-
 use crate::matrix::Matrix;
+use std::alloc::{AllocError, Global};
 
 impl<const P: u16> Matrix<P> {
     /// The first rows.
@@ -19,7 +18,11 @@ impl<const P: u16> Matrix<P> {
     }
 
     /// The columns at the given places.
-    pub(crate) fn columns_at(&self, alloc: Global, places: &[usize]) -> Result<Matrix<P>, AllocError>
+    pub(crate) fn columns_at(
+        &self,
+        alloc: Global,
+        places: &[usize],
+    ) -> Result<Matrix<P>, AllocError>
         requires within { (k : ℕ) → k < length places.now → slice_index places.now k < self.now.columns }
         requires few { length places.now ≤ self.now.columns }
         ensures { IfOk result (HasEntries self.now.rows (length places.now) (λ i k. entry self.now i (slice_index places.now k))) }
@@ -50,7 +53,11 @@ impl<const P: u16> Matrix<P> {
     }
 
     /// This matrix and another side by side.
-    pub(crate) fn side_by_side(&self, alloc: Global, other: &Matrix<P>) -> Result<Matrix<P>, AllocError>
+    pub(crate) fn side_by_side(
+        &self,
+        alloc: Global,
+        other: &Matrix<P>,
+    ) -> Result<Matrix<P>, AllocError>
         requires rows { self.now.rows ≡ other.now.rows }
         requires wide { self.now.columns + other.now.columns < 2 ^ 32 }
         requires bound { self.now.rows * (self.now.columns + other.now.columns) ≤ 16777216 }

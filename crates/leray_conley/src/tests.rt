@@ -68,3 +68,34 @@ fn an_inverse_modulo_five(rt: HostRuntime) -> Result<(), Fail> {
     assert_eq!(rt; inverse.entry(0, 0), 3);
     Ok(())
 }
+
+#[test]
+fn a_splitting_modulo_two(rt: HostRuntime) -> Result<(), Fail> {
+    let alloc = rt.alloc();
+    let f = Field::<2>::get().ok_or("no field")?;
+    let square = matrix::<2>(&rt, alloc, 2, 2, &[1, 1, 0, 0])?;
+    let leray = square.leray(alloc, f)?;
+    assert_eq!(rt; leray.image.columns(), 1);
+    assert_eq!(rt; leray.kernel.columns(), 1);
+    assert_eq!(rt; leray.image.rows(), 2);
+    assert_eq!(rt; leray.kernel.rows(), 2);
+    assert_eq!(rt; leray.image.entry(0, 0), 1);
+    assert_eq!(rt; leray.image.entry(1, 0), 0);
+    assert_eq!(rt; leray.kernel.entry(0, 0), 1);
+    assert_eq!(rt; leray.kernel.entry(1, 0), 1);
+    assert_eq!(rt; leray.reduced.rows(), 1);
+    assert_eq!(rt; leray.reduced.columns(), 1);
+    assert_eq!(rt; leray.reduced.entry(0, 0), 1);
+    Ok(())
+}
+
+#[test]
+fn a_nilpotent_matrix_modulo_three(rt: HostRuntime) -> Result<(), Fail> {
+    let alloc = rt.alloc();
+    let f = Field::<3>::get().ok_or("no field")?;
+    let square = matrix::<3>(&rt, alloc, 2, 2, &[0, 1, 0, 0])?;
+    let leray = square.leray(alloc, f)?;
+    assert_eq!(rt; leray.image.columns(), 0);
+    assert_eq!(rt; leray.kernel.columns(), 2);
+    Ok(())
+}
