@@ -10,6 +10,7 @@ pub mod Halves
 pub mod Insertions
 pub mod Inverses
 pub mod Powers
+pub mod RankLaws
 pub mod Reduced
 pub mod Reductions
 pub mod RightBlocks

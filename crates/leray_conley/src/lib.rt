@@ -14,7 +14,9 @@ mod row;
 
 pub use inverse::InverseFault;
 pub use laws::{
-    inverse_or_kernel, right_inverses_are_left, splitting_ranks_agree, splittings_exist,
+    inverse_or_kernel, left_factors_keep_ranks, ranks_agree, ranks_exist,
+    ranks_of_transposes_agree, right_factors_keep_ranks, right_inverses_are_left,
+    splitting_ranks_agree, splittings_exist,
 };
 pub use leray::Leray;
 pub use matrix::Matrix;
