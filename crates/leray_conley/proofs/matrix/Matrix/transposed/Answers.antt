@@ -1,0 +1,8 @@
+use Rattle.std.proofs.Common.{◌∙◌, ◌≡◌, ◌*◌, ℕ, ap, arith}
+use Rattle.leray_conley.proofs.Filling.{filled_matrix}
+use Rattle.leray_conley.proofs.matrix.Matrix.transposed.Goals as goal
+
+pub returns : goal.returns
+returns g c =
+    let e = ap (λ (v : ℕ). v * c.rows-columns.result) c.columns.ensures.value in
+    filled_matrix c.new.result c.args.self.now.columns c.args.self.now.rows c.loop-k.invariant c.rows-columns.ensures.value (omega arith) (c.new.ensures.rows ∙ c.columns-2.ensures.value) c.new.ensures.columns c.new.ensures.entries

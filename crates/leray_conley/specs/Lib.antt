@@ -1,0 +1,10 @@
+pub mod Echelons
+pub mod Faults
+pub mod Inverses
+pub mod Kernels
+pub mod LerayData
+pub mod Products
+pub mod Ranks
+pub mod Rows
+pub mod Splitting
+pub mod Tables
