@@ -1,6 +1,0 @@
-pub mod RelativeComplex
-pub mod Sorted
-pub mod Numbering
-pub mod Boundaries
-pub mod Gathering
-pub mod Laws
