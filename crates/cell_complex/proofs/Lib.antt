@@ -1,0 +1,11 @@
+pub mod Deciding
+pub mod Cofaces
+pub mod Squares
+pub mod Matching
+pub mod Numbering
+pub mod ByCell
+pub mod Facets
+pub mod Sorting
+pub mod Collecting
+pub mod Gathered
+pub mod Counting

@@ -1,0 +1,6 @@
+pub mod RelativeComplex
+pub mod Sorted
+pub mod Numbering
+pub mod Boundaries
+pub mod Gathering
+pub mod Laws

@@ -1,0 +1,100 @@
+//! Numbered cells.
+ghost use Rattle.std.specs.Prelude.{◌≡◌, ◌<◌, ◌^◌, ◌↔◌, [], length, IsTrue, slice_get, IsSome, IfSome, IfOk, Some};
+ghost use Rattle.std.specs.List.{Contains};
+ghost use Rattle.elem_cubes.specs.Laws.{cell_at};
+ghost use Rattle.cell_complex.specs.Sorted.{IsSortedCells};
+ghost use Rattle.cell_complex.specs.Gathering.{has_cell, AreAllAlike};
+ghost use Rattle.cell_complex.specs.Numbering.{IsListing, number_of};
+
+use elem_cubes::Cell;
+use indexmap::IndexSet;
+use std::alloc::{AllocError, Global};
+use std::marker::Model;
+
+/// Distinct cells in the order of cells, seen as their list: fewer than 2^32, with as many factors as each other and
+/// within the range of the files. The number of a cell is its place, counted from 0.
+#[derive(Drop)]
+pub struct Numbered {
+    cells: IndexSet<Cell>,
+}
+
+impl Model for Numbered {
+    ghost use Rattle.std.specs.Prelude.{List};
+    ghost use Rattle.elem_cubes.specs.Cells.{Factor};
+    ghost use Rattle.cell_complex.specs.Sorted.{IsSortedCells};
+
+    ghost Value = { List (List Factor) };
+
+    ghost view = { λ s. s.cells.keys };
+
+    ghost invariant = { λ s. IsSortedCells s.cells.keys };
+}
+
+impl Numbered {
+    /// Numbers cells that are sorted already.
+    pub fn of_sorted(alloc: Global, cells: &[Cell]) -> Result<Numbered, AllocError>
+        requires { IsSortedCells cells.now }
+        ensures { IfOk result (λ numbered. numbered ≡ cells.now) }
+    {
+        let mut numbered = IndexSet::with_capacity(alloc, cells.len())?;
+        for cell in cells {
+            numbered.insert(*cell)?;
+        }
+        Ok(Numbered { cells: numbered })
+    }
+
+    // Numbers the cells of a set in their order.
+    pub(crate) fn of_set(cells: IndexSet<Cell>) -> Result<Numbered, AllocError>
+        requires few { length cells.keys < 2 ^ 32 }
+        requires alike { AreAllAlike cells.keys }
+        ensures { IfOk result (IsListing (has_cell cells.keys)) }
+    {
+        let mut numbered = cells;
+        numbered.sort()?;
+        Ok(Numbered { cells: numbered })
+    }
+
+    /// How many cells there are.
+    pub fn len(&self) -> u32
+        ensures count { result ≡ length self.now }
+        ensures sorted { IsSortedCells self.now }
+    {
+        self.cells.len() as u32
+    }
+
+    /// Whether there are none.
+    pub fn is_empty(&self) -> bool
+        ensures empty { IsTrue result ↔ (self.now ≡ []) }
+    {
+        self.cells.is_empty()
+    }
+
+    /// The cell of a number below `len`.
+    pub fn cell(&self, number: u32) -> Cell
+        requires { number < length self.now }
+        ensures { result ≡ cell_at self.now number }
+    {
+        self.cells()[number as usize]
+    }
+
+    /// The cells in order.
+    pub fn cells(&self) -> &[Cell]
+        ensures value { result.now ≡ self.now }
+        ensures sorted { IsSortedCells self.now }
+    {
+        self.cells.as_slice()
+    }
+
+    /// The number of a cell, or `None` where it is not there.
+    pub fn number(&self, cell: &Cell) -> Option<u32>
+        ensures found { IsSome result ↔ Contains self.now cell.now }
+        ensures place { IfSome result (λ number. slice_get self.now number ≡ Some cell.now) }
+        ensures number { IfSome result (λ number. number ≡ number_of self.now cell.now) }
+        ensures sorted { IsSortedCells self.now }
+    {
+        let Some(index) = self.cells.get_index_of(cell) else {
+            return None;
+        };
+        Some(index as u32)
+    }
+}

@@ -1,0 +1,16 @@
+pub mod Merging
+pub mod Sorting
+pub mod Steps
+pub mod Reading
+pub mod Deciding
+pub mod Outcomes
+pub mod Scanning
+pub mod SetLemmas
+pub mod Corners
+pub mod Openings
+pub mod WholeCubes
+pub mod Gathering
+pub mod Readings
+pub mod Finishing
+pub mod SetFiles
+pub mod Writing

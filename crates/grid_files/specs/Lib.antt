@@ -1,0 +1,14 @@
+pub mod Sorted
+pub mod Sets
+pub mod Pieces
+pub mod Items
+pub mod SetFile
+pub mod Laws
+pub mod Scanning
+pub mod Reading
+pub mod Corners
+pub mod Openings
+pub mod Readers
+pub mod Readings
+pub mod Faults
+pub mod Written

@@ -1,0 +1,34 @@
+-- What a reader of set files keeps of a reading, and what its calls do.
+use Rattle.std.specs.Prelude.{◌≡◌, ◌≤◌, ℕ, ◌+◌, ℤ, List, [], ◌∷◌, length, true, Option, None, Some, Result, Ok, Err}
+use Rattle.elem_cubes.specs.Cells.{Factor}
+use Rattle.elem_cubes.specs.Order.{cell_cmp}
+use Rattle.grid_files.specs.Sorted.{has}
+use Rattle.grid_files.specs.Sets.{Members, IsCubeSet}
+use Rattle.grid_files.specs.Items.{Item, Open, cause_of, with_item, with_cell, cell_cause, dimension_cause, natural, fits_open}
+use Rattle.grid_files.specs.Reading.{read}
+use Rattle.grid_files.specs.Openings.{IsOpening}
+use Rattle.grid_files.specs.Scanning.{left, IsCarry}
+use Rattle.grid_files.specs.declared.fault.Kind.{Kind}
+use Rattle.grid_files.specs.declared.fault.TextCause.{TextCause}
+use Rattle.grid_files.specs.declared.fault.TextFault.{TextFault}
+use Rattle.grid_files.specs.declared.fault.TextFault.TheVariants as faults
+use Rattle.grid_files.specs.declared.fault.TheConstants.{CUBES}
+use Rattle.grid_files.specs.declared.piece.Piece.{Piece}
+use Rattle.grid_files.specs.declared.scanner.Carry.{Carry}
+use Rattle.grid_files.specs.declared.gathered.Gathered.{Gathered}
+use Rattle.grid_files.specs.declared.gathered.Refusal.{Refusal}
+use Rattle.grid_files.specs.declared.gathered.Refusal.TheVariants as refusals
+
+-- these are the dimension and the members of the set, in some order
+pub record IsGathered (gathered : Gathered) (set : Members) : Type 0 where
+  pub dimension : gathered.dimension ≡ set.dimension
+  pub members : (c : List Factor) → has cell_cmp gathered.cells c ≡ has cell_cmp set.cells c
+  pub count : length gathered.cells ≡ length set.cells
+  pub is_set : IsCubeSet set
+  pub few : length set.cells ≤ CUBES
+
+-- the set is changed as told, or refused with the cause
+abbrev pub Joins : Option TextCause → Members → Gathered → Result (Unit {0}) Refusal → Type 0
+Joins why set now (Ok _) = (why ≡ None) × IsGathered now set
+Joins why set now (Err (refusals.Cause cause)) = why ≡ Some cause
+Joins why set now (Err refusals.NoMemory) = Unit {0}

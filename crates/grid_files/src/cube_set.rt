@@ -1,0 +1,139 @@
+//! Sets of cells.
+ghost use Rattle.std.specs.Prelude.{◌≡◌, ◌<◌, ◌≤◌, ◌+◌, ◌^◌, ◌||◌, ◌&&◌, max, List, [], length, slice_get, vec_len, true, IsTrue, IsOk, IfOk, Some, ◌↔◌};
+ghost use Rattle.std.specs.List.{list_all};
+ghost use Rattle.elem_cubes.specs.Cells.{Factor, is_file_factor};
+ghost use Rattle.elem_cubes.specs.Order.{cell_cmp};
+ghost use Rattle.grid_files.specs.Sorted.{set_of, union_of, intersection_of, has};
+ghost use Rattle.grid_files.specs.Sets.{is_member, IsCubeSet, holds, dimensions_agree};
+
+use crate::sorted::{contains, intersection, sort_distinct, union_of_all};
+use elem_cubes::{Cell, MAX_EMBEDDING};
+use std::alloc::{AllocError, Global};
+use std::marker::Model;
+
+/// A set of cells of one embedding dimension, from 1 to `MAX_EMBEDDING`, or 0 where that is unknown and the set is empty. It
+/// is seen as its dimension and the sorted list of its members.
+#[derive(Drop)]
+pub struct CubeSet {
+    dimension: u8,
+    cells: Vec<Cell>,
+}
+
+impl Model for CubeSet {
+    ghost use Rattle.grid_files.specs.Sets.{Members, IsCubeSet};
+
+    ghost Value = { Members };
+
+    ghost view = { λ s. record { dimension = s.dimension; cells = s.cells.items } };
+
+    ghost invariant = { λ s. IsCubeSet (record { dimension = s.dimension; cells = s.cells.items }) };
+}
+
+/// Whether all of these cells lie in the range of the files and have this embedding dimension.
+pub fn are_members(dimension: u8, cells: &[Cell]) -> bool
+    ensures { result ≡ list_all (is_member dimension) cells.now }
+{
+    cells.iter().all(|cell| is_member(dimension, cell))
+}
+
+fn is_member(dimension: u8, cell: &Cell) -> bool
+    ensures { result ≡ is_member dimension cell.now }
+{
+    cell.embedding() == u32::from(dimension) && cell.in_range()
+}
+
+impl CubeSet {
+    /// The set of these cells; the same cell may stand more than once. All of them lie in the range of the files and have
+    /// this embedding dimension, which is 0 for an empty list alone.
+    pub fn of_cells(dimension: u8, cells: Vec<Cell>) -> Result<CubeSet, AllocError>
+        requires axes { dimension ≤ MAX_EMBEDDING }
+        requires few { vec_len cells < 2 ^ 32 }
+        requires alike { IsTrue (list_all (is_member dimension) cells.items) }
+        requires unknown { dimension ≡ 0 → cells.items ≡ [] }
+        ensures ok { IsOk result }
+        ensures dimension { IfOk result (λ s. s.dimension ≡ dimension) }
+        ensures members { IfOk result (λ s. (c : List Factor) → holds s c ≡ has cell_cmp cells.items c) }
+    {
+        let mut cells = cells;
+        sort_distinct(&mut cells);
+        Ok(CubeSet { dimension, cells })
+    }
+
+    /// The embedding dimension, or 0 where it is unknown.
+    pub fn dimension(&self) -> u8
+        ensures dimension { result ≡ self.now.dimension }
+        ensures axes { result ≤ MAX_EMBEDDING }
+        ensures unknown { result ≡ 0 → self.now.cells ≡ [] }
+    {
+        self.dimension
+    }
+
+    /// The number of members.
+    pub fn len(&self) -> u32
+        ensures len { result ≡ length self.now.cells }
+        ensures set { IsCubeSet self.now }
+    {
+        self.cells.len() as u32
+    }
+
+    /// Whether the set has no members.
+    pub fn is_empty(&self) -> bool
+        ensures { IsTrue result ↔ (self.now.cells ≡ []) }
+    {
+        self.cells.is_empty()
+    }
+
+    /// The members in order.
+    pub fn cells(&self) -> &[Cell]
+        ensures cells { result.now ≡ self.now.cells }
+        ensures set { IsCubeSet self.now }
+    {
+        &self.cells
+    }
+
+    /// The member at a place of the order, counted from 0.
+    pub fn cell(&self, i: u32) -> Cell
+        requires { i < length self.now.cells }
+        ensures cell { slice_get self.now.cells i ≡ Some result }
+        ensures member { IsTrue (is_member self.now.dimension result) }
+    {
+        self.cells[i as usize]
+    }
+
+    /// Whether the cell is a member.
+    pub fn holds(&self, cell: &Cell) -> bool
+        ensures { result ≡ holds self.now cell.now }
+    {
+        contains(&self.cells, cell)
+    }
+
+    /// The members of either set. The dimensions are equal, or one of them is unknown.
+    pub fn union(&self, alloc: Global, other: &CubeSet) -> Result<CubeSet, AllocError>
+        requires agree { IsTrue (dimensions_agree self.now.dimension other.now.dimension) }
+        requires few { length self.now.cells + length other.now.cells < 2 ^ 32 }
+        ensures dimension { IfOk result (λ s. s.dimension ≡ max self.now.dimension other.now.dimension) }
+        ensures members { IfOk result (λ s. (c : List Factor) → holds s c ≡ (holds self.now c || holds other.now c)) }
+        ensures cells { IfOk result (λ s. s.cells ≡ union_of cell_cmp self.now.cells other.now.cells) }
+    {
+        let cells = union_of_all(alloc, &self.cells, &other.cells)?;
+        Ok(CubeSet {
+            dimension: self.dimension.max(other.dimension),
+            cells,
+        })
+    }
+
+    /// The members of both sets. The dimensions are equal, or one of them is unknown.
+    pub fn intersection(&self, alloc: Global, other: &CubeSet) -> Result<CubeSet, AllocError>
+        requires agree { IsTrue (dimensions_agree self.now.dimension other.now.dimension) }
+        requires few { length self.now.cells + length other.now.cells < 2 ^ 32 }
+        ensures dimension { IfOk result (λ s. s.dimension ≡ max self.now.dimension other.now.dimension) }
+        ensures members { IfOk result (λ s. (c : List Factor) → holds s c ≡ (holds self.now c && holds other.now c)) }
+        ensures cells { IfOk result (λ s. s.cells ≡ intersection_of cell_cmp self.now.cells other.now.cells) }
+    {
+        let cells = intersection(alloc, &self.cells, &other.cells)?;
+        Ok(CubeSet {
+            dimension: self.dimension.max(other.dimension),
+            cells,
+        })
+    }
+}

@@ -1,0 +1,30 @@
+//! Sets of cells: set files, read and written, and the algebra of sets.
+#![tactic(auto)]
+
+mod cells;
+mod corner;
+mod cube_set;
+mod fault;
+mod gathered;
+mod laws;
+mod opening;
+mod piece;
+mod reader;
+mod scanner;
+mod set_file;
+mod sorted;
+mod whole_cube;
+mod write;
+
+pub use cube_set::{CubeSet, are_members};
+pub use fault::{CUBES, Kind, TextCause, TextFault};
+pub use laws::texts_have_one_outcome;
+pub use set_file::read_set;
+pub use write::write_set;
+
+#[cfg(test)]
+mod read_tests;
+#[cfg(test)]
+mod tests;
+#[cfg(test)]
+mod write_tests;

@@ -1,0 +1,85 @@
+//! Sets as texts.
+ghost use Rattle.std.specs.Prelude.{◌≡◌, ◌++◌, ◌≤◌, length, OnOk, IfOk, drop, ◌∷◌, []};
+ghost use Rattle.std.specs.List.{flat_map};
+ghost use Rattle.grid_files.specs.Written.{spaced, next_text, corner_text, cell_text, cell_line, written};
+
+use crate::cube_set::CubeSet;
+use crate::fault::CUBES;
+use crate::piece::DIMENSION;
+use elem_cubes::{Cell, Corner};
+use outside::put_number;
+use std::alloc::{AllocError, Global};
+
+// Numbers separated by one space.
+fn put_numbers(to: &mut Vec<u8>, numbers: &[i32]) -> Result<(), AllocError>
+    ensures { OnOk result (to.new.items ≡ to.old.items ++ drop 1 (spaced numbers.now)) }
+{
+    for i in 0..numbers.len() {
+        put_next(to, i == 0, numbers[i])?;
+    }
+    Ok(())
+}
+
+// A number, behind a space where it is not the first.
+fn put_next(to: &mut Vec<u8>, first: bool, number: i32) -> Result<(), AllocError>
+    ensures { OnOk result (to.new.items ≡ to.old.items ++ next_text first number) }
+{
+    if first {
+        return put_number(to, i64::from(number));
+    }
+    to.push(b' ')?;
+    put_number(to, i64::from(number))
+}
+
+// A corner in its brackets.
+fn put_corner(to: &mut Vec<u8>, corner: &Corner) -> Result<(), AllocError>
+    ensures { OnOk result (to.new.items ≡ to.old.items ++ corner_text corner.now) }
+{
+    to.push(b'(')?;
+    put_numbers(to, corner.coordinates())?;
+    to.push(b')')?;
+    Ok(())
+}
+
+// A cell.
+fn put_cell(to: &mut Vec<u8>, cell: &Cell) -> Result<(), AllocError>
+    ensures { OnOk result (to.new.items ≡ to.old.items ++ cell_text cell.now) }
+{
+    if cell.is_full() {
+        return put_corner(to, &cell.lower());
+    }
+    to.push(b'[')?;
+    put_corner(to, &cell.lower())?;
+    put_corner(to, &cell.upper())?;
+    to.push(b']')?;
+    Ok(())
+}
+
+// A cell on a line of its own.
+fn put_line(to: &mut Vec<u8>, cell: &Cell) -> Result<(), AllocError>
+    ensures { OnOk result (to.new.items ≡ to.old.items ++ cell_line cell.now) }
+{
+    put_cell(to, cell)?;
+    to.push(b'\n')?;
+    Ok(())
+}
+
+/// The written form of a set of at most `CUBES` members.
+pub fn write_set(alloc: Global, set: &CubeSet) -> Result<Vec<u8>, AllocError>
+    requires { length set.now.cells ≤ CUBES }
+    ensures { IfOk result (λ text. text.items ≡ written set.now) }
+{
+    let mut text = Vec::new(alloc);
+    let dimension = set.dimension();
+    if dimension == 0 {
+        return Ok(text);
+    }
+    text.extend_from_slice(&DIMENSION)?;
+    text.push(b' ')?;
+    put_number(&mut text, i64::from(dimension))?;
+    text.push(b'\n')?;
+    for cell in set.cells() {
+        put_line(&mut text, cell)?;
+    }
+    Ok(text)
+}
