@@ -1,5 +1,5 @@
 -- What the words and the files are judged to be: the input of a command, or the first refusal.
-use Rattle.std.specs.Prelude.{◌≡◌, ℕ, ℤ, List, [], ◌∷◌, Option, None, Some, Result, Ok, Err, nat_lt, if◌then◌else◌, length}
+use Rattle.std.specs.Prelude.{◌≡◌, ℕ, ℤ, List, Option, None, Some, Result, Ok, Err, nat_lt, if◌then◌else◌, length}
 use Rattle.std.specs.Str.{bytes_eq}
 use Rattle.outside.specs.Disk.{Disk, content}
 use Rattle.report.specs.declared.fault.Fault.{Fault}
@@ -59,12 +59,8 @@ input_of (Homcubes job) read = do
   given ← homcubes_input job read
   Ok (inputs.Homcubes given)
 
--- the words first, then the files
+-- the words first, then the files: the input, or the first refusal
 abbrev pub judged : List (List ℕ) → Reading → Result Input Fault
 judged words read = do
   command ← command_of words
   input_of command read
-
--- the words and the files are first refused by this fault
-abbrev pub IsFirstRefusal : List (List ℕ) → Reading → Fault → Type 0
-IsFirstRefusal words read fault = judged words read ≡ Err fault

@@ -13,7 +13,7 @@ use Rattle.chomp.specs.declared.command.Command.{Command}
 use Rattle.chomp.specs.declared.command.Input.{Input}
 use Rattle.chomp.specs.Statuses.{status_of}
 use Rattle.chomp.specs.Words.{command_of, names_of, shown_of}
-use Rattle.chomp.specs.Refusal.{Reading, reading, but_for, input_of, judged, IsFirstRefusal}
+use Rattle.chomp.specs.Refusal.{Reading, reading, but_for, input_of, judged}
 use Rattle.chomp.specs.Degrees.{HasDegrees}
 
 -- The result is the due one, or that memory ran out.

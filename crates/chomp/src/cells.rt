@@ -9,7 +9,10 @@ use std::alloc::{AllocError as NoMemory, Global};
 pub fn cells_of(alloc: Global, cubes: &Cubes) -> Result<IndexSet<Cell>, NoMemory> {
     let mut corners = cubes.corners().to_vec(alloc)?;
     corners.sort_unstable();
-    let mut cells = IndexSet::new(alloc);
+    corners.dedup();
+    // In a dense set each cube of dimension n comes with 2^n cells.
+    let room = corners.len().saturating_mul(1 << cubes.dimension());
+    let mut cells = IndexSet::with_capacity(alloc, room)?;
     for corner in &corners {
         if let Some(cube) = Cell::full(corner) {
             add_faces(&mut cells, &cube)?;

@@ -1,6 +1,5 @@
 //! The three steps from words to a report, for whichever tool the words name.
-ghost use Rattle.std.specs.Prelude.{◌≡◌, ◌≤◌, ◌+◌, IfOk, IfErr, IfSome, OnErr, map, string_bytes, Err};
-ghost use Rattle.outside.specs.Causes.{NoneFell};
+ghost use Rattle.std.specs.Prelude.{◌≡◌, ◌≤◌, ◌+◌, IfOk, IfErr, IfSome, OnErr, Err};
 ghost use Rattle.chomp.specs.Words.{spoken, command_of, names_of, shown_of};
 ghost use Rattle.chomp.specs.Refusal.{input_of, reading, file_bytes};
 ghost use Rattle.chomp.specs.Saying.{LoadRestsOn, IsDue};

@@ -1,6 +1,5 @@
 //! The tool `homcubes`: the homology of a set of full cubes.
-ghost use Rattle.std.specs.Prelude.{◌≡◌, ◌≤◌, ◌+◌, ◌∷◌, [], IfOk, IfErr, IfSome, OnErr, map, string_bytes, Err, length};
-ghost use Rattle.outside.specs.Causes.{NoneFell};
+ghost use Rattle.std.specs.Prelude.{◌≡◌, ◌≤◌, ◌+◌, ◌∷◌, [], IfOk, IfErr, IfSome, OnErr, Err};
 ghost use Rattle.chomp.specs.Words.{spoken, homcubes_job};
 ghost use Rattle.chomp.specs.Refusal.{homcubes_input, reading, file_bytes};
 ghost use Rattle.chomp.specs.Saying.{LoadRestsOn, IsDue};

@@ -1,12 +1,12 @@
 //! The top call: words, files and sinks in, a status out.
-ghost use Rattle.std.specs.Prelude.{◌≡◌, ◌≢◌, ◌≤◌, ◌+◌, ◌⊎◌, [], List, ℕ, Ok, Err, map, string_bytes, IfOk, IfErr, IfSome};
+ghost use Rattle.std.specs.Prelude.{◌≡◌, ◌≢◌, ◌≤◌, ◌+◌, ◌⊎◌, [], List, ℕ, Ok, Err, IfOk, IfErr, IfSome};
 ghost use Rattle.outside.specs.Told.{Gains, GainsFront};
 ghost use Rattle.outside.specs.Causes.{Rose};
 ghost use Rattle.report.specs.FaultText.{fault_text};
 ghost use Rattle.chomp.specs.Statuses.{status_of};
 ghost use Rattle.chomp.specs.Words.{spoken, command_of};
 ghost use Rattle.chomp.specs.Refusal.{judged, reading, file_bytes};
-ghost use Rattle.chomp.specs.Saying.{IsDue, Says, RestsOn, IsAnswer, ReadFailed, Answers};
+ghost use Rattle.chomp.specs.Saying.{Says, RestsOn, IsAnswer, ReadFailed, Answers};
 
 use crate::command::{command_of, compute, load};
 use crate::delivery::{deliver, refuse};

@@ -1,7 +1,6 @@
 //! The words of the command line.
-ghost use Rattle.std.specs.Prelude.{◌≡◌, ◌⊎◌, codes};
+ghost use Rattle.std.specs.Prelude.{◌≡◌, ◌⊎◌};
 ghost use Rattle.chomp.specs.Words.{is_operand};
-ghost use Rattle.chomp.specs.Saying.{IsDue};
 
 use report::{Fault, Name};
 use std::alloc::Global;
