@@ -15,3 +15,4 @@ pub mod Members
 pub mod Zeros
 pub mod Listing
 pub mod Ranges
+pub mod Changing

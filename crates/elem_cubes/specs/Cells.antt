@@ -20,6 +20,11 @@ abbrev pub high : Factor → ℤ
 high (point l) = l
 high (interval l) = l +ℤ pos 1
 
+-- the factor moved by so much
+abbrev pub moved : ℤ → Factor → Factor
+moved z (point l) = point (l +ℤ z)
+moved z (interval l) = interval (l +ℤ z)
+
 -- the factor is an interval, not a point
 abbrev pub is_wide : Factor → Bool
 is_wide (point l) = false

@@ -1,15 +1,16 @@
 -- Laws of cells: each is the contract of a function of the crate with an empty body.
-use Rattle.std.specs.Prelude.{◌≡◌, ◌≢◌, ◌↔◌, true, ℕ, ◌*◌, ◌<◌, ◌≤◌, ℤ, List, [], length, slice_index_or, IsTrue}
+use Rattle.std.specs.Prelude.{◌≡◌, ◌≢◌, ◌↔◌, true, ℕ, ◌*◌, ◌<◌, ◌≤◌, ℤ, ◌+ℤ◌, List, [], length, slice_index_or, slice_set, IsTrue}
 use Rattle.std.specs.List.{Contains, list_all}
 use Rattle.std.specs.Cmp.{IsTotalOrder}
 use Rattle.std.specs.declared.cmp.Ordering.TheVariants.{Equal}
 use Rattle.field_mod.specs.Sums.{total}
 use Rattle.field_mod.specs.Modular.{Same}
 use Rattle.elem_cubes.specs.Corners.{corner_cmp}
-use Rattle.elem_cubes.specs.Cells.{Factor, is_cell, is_file_factor, lower_of, upper_of, axes_of, cell_of, full_cell, same_cell}
+use Rattle.elem_cubes.specs.Cells.{Factor, low, high, is_wide, is_cell, is_file_factor, lower_of, upper_of, axes_of, cell_of, full_cell, same_cell}
 use Rattle.elem_cubes.specs.Faces.{IsFace, IsFacet, faces_of, cofaces_of, closure_of}
 use Rattle.elem_cubes.specs.Boundary.{residue, boundary_coefficient, boundary_at, boundary_pairing, signed_sum}
 use Rattle.elem_cubes.specs.Order.{cell_cmp}
+use Rattle.elem_cubes.specs.Walks.{factor_at}
 
 -- the cell at a place of a list; past the end the empty cell, whose coefficients are 0
 abbrev pub cell_at : List (List Factor) → ℕ → List Factor
@@ -85,3 +86,11 @@ pub record OrderIsTotal : Type 0 where
   pub tied : (q r : List Factor) → (cell_cmp q r ≡ Equal) ↔ (q ≡ r)
   pub equal : (q r : List Factor) → (same_cell q r ≡ true) ↔ (q ≡ r)
   pub full : (ls ms : List ℤ) → cell_cmp (full_cell ls) (full_cell ms) ≡ corner_cmp ls ms
+
+-- where two cells are intervals along an axis, and both intervals are changed alike, each end moved by so much, the cells stand
+-- in the order in which they stood
+abbrev pub ChangesKeepOrder : Type 0
+ChangesKeepOrder =
+    (change : ℤ → Factor) (a b : ℤ) → ((l : ℤ) → low (change l) ≡ l +ℤ a) → ((l : ℤ) → high (change l) ≡ l +ℤ b)
+    → (q r : List Factor) (axis : ℕ) → is_wide (factor_at q axis) ≡ true → is_wide (factor_at r axis) ≡ true
+    → cell_cmp (slice_set q axis (change (low (factor_at q axis)))) (slice_set r axis (change (low (factor_at r axis)))) ≡ cell_cmp q r

@@ -1,10 +1,10 @@
 //! Cells: elementary cubes.
-ghost use Rattle.std.specs.Prelude.{◌≡◌, ◌<◌, ◌≤◌, ◌^◌, ◌↔◌, ◌&&◌, ℤ, negsuc, ◌+ℤ◌, List, length, slice_set, int_lt, true, ◌-◌, IsTrue, nat_lt, if◌then◌else◌};
+ghost use Rattle.std.specs.Prelude.{◌≡◌, ◌<◌, ◌≤◌, ◌^◌, ◌↔◌, ◌&&◌, ℤ, pos, negsuc, ◌+ℤ◌, List, length, slice_set, int_lt, true, ◌-◌, IsTrue, nat_lt, if◌then◌else◌};
 ghost use Rattle.std.proofs.Common.{rules};
 ghost use Rattle.std.specs.List.{list_all};
 ghost use Rattle.std.specs.Cmp.Rules.{comparing};
 ghost use Rattle.std.specs.Ordering.{as_partial_cmp};
-ghost use Rattle.elem_cubes.specs.Cells.{point, interval, low, high, is_wide, is_factor, is_file_factor, is_cell, lower_of, upper_of, axes_of, cell_of, full_cell, dimension_of, same_cell};
+ghost use Rattle.elem_cubes.specs.Cells.{point, interval, low, high, moved, is_wide, is_factor, is_file_factor, is_cell, lower_of, upper_of, axes_of, cell_of, full_cell, dimension_of, same_cell};
 ghost use Rattle.elem_cubes.specs.Faces.{IsFace, faces_of, cofaces_of, closure_of, is_part, is_face};
 ghost use Rattle.elem_cubes.specs.Order.{cell_cmp};
 ghost use Rattle.elem_cubes.specs.Walks.{factor_at};
@@ -176,8 +176,8 @@ impl Cell {
         self.len as usize
     }
 
-    /// Whether the factor on the axis `i` is an interval.
-    pub(crate) fn is_wide(&self, i: usize) -> bool
+    /// Whether the factor on the axis `i`, counted from 0, is an interval.
+    pub fn is_wide(&self, i: usize) -> bool
         requires { i < length self.now }
         ensures { result ≡ is_wide (factor_at self.now i) }
     {
@@ -185,7 +185,7 @@ impl Cell {
     }
 
     /// The cell with the lower end of the factor on the axis `i` in its place.
-    pub(crate) fn lower_end(&self, i: usize) -> Cell
+    pub fn lower_end(&self, i: usize) -> Cell
         requires { i < length self.now }
         ensures { result ≡ slice_set self.now i (point (low (factor_at self.now i))) }
     {
@@ -193,12 +193,30 @@ impl Cell {
     }
 
     /// The cell with the upper end of the interval on the axis `i` in its place.
-    pub(crate) fn upper_end(&self, i: usize) -> Cell
+    pub fn upper_end(&self, i: usize) -> Cell
         requires axis { i < length self.now }
         requires wide { is_wide (factor_at self.now i) ≡ true }
         ensures { result ≡ slice_set self.now i (point (high (factor_at self.now i))) }
     {
         self.with_point(i, self.low(i) + 1)
+    }
+
+    /// The cell moved one step up along the axis `i`.
+    pub fn moved_up(&self, i: usize) -> Cell
+        requires axis { i < length self.now }
+        requires range { IsTrue (list_all is_file_factor self.now) }
+        ensures { result ≡ slice_set self.now i (moved (pos 1) (factor_at self.now i)) }
+    {
+        self.with_low(i, self.low(i) + 1)
+    }
+
+    /// The cell moved one step down along the axis `i`.
+    pub fn moved_down(&self, i: usize) -> Cell
+        requires axis { i < length self.now }
+        requires range { IsTrue (list_all is_file_factor self.now) }
+        ensures { result ≡ slice_set self.now i (moved (negsuc 0) (factor_at self.now i)) }
+    {
+        self.with_low(i, self.low(i) - 1)
     }
 
     /// The cell with the interval that begins at the point on the axis `i` in its place.
@@ -227,6 +245,19 @@ impl Cell {
     {
         let _ = &self.ends;
         self.low_ends()[i]
+    }
+
+    /// The cell with its factor on the axis `i` moved to this lower end.
+    fn with_low(&self, i: usize, end: i32) -> Cell
+        requires axis { i < length self.now }
+        requires fits { IsTrue (is_factor (if is_wide (factor_at self.now i) then interval end else point end)) }
+        ensures { result ≡ slice_set self.now i (if is_wide (factor_at self.now i) then interval end else point end) }
+    {
+        if self.is_wide(i) {
+            self.with_interval(i, end)
+        } else {
+            self.with_point(i, end)
+        }
     }
 
     /// The cell with a point on the axis `i`.

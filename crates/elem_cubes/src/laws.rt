@@ -1,5 +1,5 @@
 //! Laws of cells, their faces and their boundary: each is the contract of a function that does nothing.
-ghost use Rattle.elem_cubes.specs.Laws.{CellsHaveParts, FacesAreTransitive, FacesStayInRange, FacesAreFacets, CofacesAreAll, BoundaryIsOverCofaces, ClosuresAreFaces, FacetsAreUnits, BoundaryOfBoundaryIsZero, BoundaryAtIsBoundary, OrderIsTotal};
+ghost use Rattle.elem_cubes.specs.Laws.{CellsHaveParts, FacesAreTransitive, FacesStayInRange, FacesAreFacets, CofacesAreAll, BoundaryIsOverCofaces, ClosuresAreFaces, FacetsAreUnits, BoundaryOfBoundaryIsZero, BoundaryAtIsBoundary, OrderIsTotal, ChangesKeepOrder};
 
 pub fn cells_have_parts()
     ensures { CellsHaveParts }
@@ -43,4 +43,8 @@ pub fn boundary_at_is_boundary()
 
 pub fn order_is_total()
     ensures { OrderIsTotal }
+{}
+
+pub fn changes_keep_order()
+    ensures { ChangesKeepOrder }
 {}

@@ -17,8 +17,8 @@ pub use corner::Corner;
 pub use faces::Faces;
 pub use laws::{
     boundary_at_is_boundary, boundary_is_over_cofaces, boundary_of_boundary_is_zero,
-    cells_have_parts, closures_are_faces, cofaces_are_all, faces_are_facets, faces_are_transitive,
-    faces_stay_in_range, facets_are_units, order_is_total,
+    cells_have_parts, changes_keep_order, closures_are_faces, cofaces_are_all, faces_are_facets,
+    faces_are_transitive, faces_stay_in_range, facets_are_units, order_is_total,
 };
 pub use range::{HIGH, LOW, MAX_EMBEDDING};
 

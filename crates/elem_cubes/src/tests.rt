@@ -144,3 +144,19 @@ fn ends_of_the_range(rt: HostRuntime) -> Result<(), Fail> {
     assert!(rt; cell(&rt, &[HIGH - 1], 1).in_range() && !cell(&rt, &[HIGH], 1).in_range());
     Ok(())
 }
+
+#[test]
+fn an_edge_in_the_plane_has_ends_and_moves(rt: HostRuntime) -> Result<(), Fail> {
+    let edge = cell(&rt, &[0, 5], 2);
+    let fits = edge.embedding() == 2 && edge.is_wide(1) && edge.in_range();
+    assert!(rt; fits);
+    assert!(rt; !edge.is_wide(0));
+    assert!(rt; edge.lower_end(0) == edge);
+    assert!(rt; edge.lower_end(1) == cell(&rt, &[0, 5], 0));
+    assert!(rt; edge.upper_end(1) == cell(&rt, &[0, 6], 0));
+    assert!(rt; edge.moved_up(0) == cell(&rt, &[1, 5], 2));
+    assert!(rt; edge.moved_down(0) == cell(&rt, &[-1, 5], 2));
+    assert!(rt; edge.moved_up(1) == cell(&rt, &[0, 6], 2));
+    assert!(rt; edge.moved_down(1) == cell(&rt, &[0, 4], 2));
+    Ok(())
+}
