@@ -14,3 +14,4 @@ pub mod Readings
 pub mod Finishing
 pub mod SetFiles
 pub mod Writing
+pub mod Few

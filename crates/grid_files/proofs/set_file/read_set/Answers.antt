@@ -1,5 +1,6 @@
 use Rattle.std.proofs.Common.{◌≡◌, ◌≤◌, length, arith, subst, ℕ, refl}
 use Rattle.grid_files.proofs.SetFiles.{IsReading, fed_on, fed_fault, end_fault, ended, finished_value, finished_fault}
+use Rattle.grid_files.proofs.Few.{result_few, result_full}
 use Rattle.grid_files.proofs.set_file.read_set.Goals as goal
 
 pub returns-in-Err-clause-refusal : goal.returns-in-Err-clause-refusal
@@ -26,6 +27,12 @@ returns-in-Ok-feed-clause-value c =
     let f = c.in-Ok-feed.ensures.feeds r.set r.o r.reads in
     let le : length c.args.bytes.now ≤ length c.args.bytes.now = omega arith in
     finished_value c.args.kind c.args.bytes.now f.o' _ f.set' _ (ended c.args.kind c.args.bytes.now c.loop-place.reader c.feed-2.new.self c.loop-place.carry c.in-Ok-feed.field-0 (length c.args.bytes.now) r le f (c.in-Ok-feed.ensures.line refl)) (c.finish.ensures f.set' f.o' f.reads)
+
+pub returns-in-Ok-feed-clause-few : goal.returns-in-Ok-feed-clause-few
+returns-in-Ok-feed-clause-few c = result_few c.args.kind c.args.bytes.now _ (returns-in-Ok-feed-clause-value c)
+
+pub returns-in-Ok-feed-clause-full : goal.returns-in-Ok-feed-clause-full
+returns-in-Ok-feed-clause-full c = λ e. result_full c.args.kind c.args.bytes.now _ e (returns-in-Ok-feed-clause-value c)
 
 pub returns-in-Ok-feed-clause-refusal : goal.returns-in-Ok-feed-clause-refusal
 returns-in-Ok-feed-clause-refusal c =
