@@ -15,3 +15,6 @@ pub mod Finishing
 pub mod SetFiles
 pub mod Writing
 pub mod Few
+pub mod Spreading
+pub mod Spreads
+pub mod Covering

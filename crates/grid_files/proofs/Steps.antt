@@ -26,7 +26,7 @@ length-inserted cmp c (x ∷ xs) =
     let rest = length-inserted cmp c xs in
     by_cases (λ ys. suc (length xs) ≤ length ys) (cmp c x) _ _ _ (λ _. omega arith) (λ _. omega arith) (λ _. omega arith)
 
-length-union : {K : Type 0} (cmp : K → K → Ordering) (xs ys : List K) → length ys ≤ length (union_of cmp xs ys)
+pub length-union : {K : Type 0} (cmp : K → K → Ordering) (xs ys : List K) → length ys ≤ length (union_of cmp xs ys)
 length-union cmp [] ys = omega arith
 length-union cmp (x ∷ xs) ys =
     let rest = length-union cmp xs ys in

@@ -12,3 +12,5 @@ pub mod Readers
 pub mod Readings
 pub mod Faults
 pub mod Written
+pub mod Changes
+pub mod Closures

@@ -1,12 +1,16 @@
 //! Sets of cells.
-ghost use Rattle.std.specs.Prelude.{◌≡◌, ◌<◌, ◌≤◌, ◌+◌, ◌^◌, ◌||◌, ◌&&◌, max, List, [], length, slice_get, vec_len, true, IsTrue, IsOk, IfOk, Some, ◌↔◌};
+ghost use Rattle.std.specs.Prelude.{◌≡◌, ◌≢◌, ◌<◌, ◌≤◌, ◌+◌, ◌^◌, ◌||◌, ◌&&◌, max, List, [], length, slice_get, vec_len, true, IsTrue, IsOk, IfOk, OnOk, Err, Some, ◌↔◌};
 ghost use Rattle.std.specs.List.{list_all};
 ghost use Rattle.elem_cubes.specs.Cells.{Factor, is_file_factor};
 ghost use Rattle.elem_cubes.specs.Order.{cell_cmp};
 ghost use Rattle.grid_files.specs.Sorted.{set_of, union_of, intersection_of, has};
 ghost use Rattle.grid_files.specs.Sets.{is_member, IsCubeSet, holds, dimensions_agree};
+ghost use Rattle.grid_files.specs.Closures.{cells_of, closure};
 
+use crate::change::Change;
+use crate::fault::{CUBES, SetFault};
 use crate::sorted::{contains, intersection, sort_distinct, union_of_all};
+use crate::spread::spread;
 use elem_cubes::{Cell, MAX_EMBEDDING};
 use std::alloc::{AllocError, Global};
 use std::marker::Model;
@@ -135,5 +139,36 @@ impl CubeSet {
             dimension: self.dimension.max(other.dimension),
             cells,
         })
+    }
+
+    /// The set of all faces of the members, or `TooMany` exactly where they are more than so many.
+    pub fn closure_within(&self, alloc: Global, limit: u32) -> Result<CubeSet, SetFault>
+        ensures cells { IfOk result (λ s. s ≡ closure self.now) }
+        ensures few { OnOk result (length (cells_of self.now.cells) ≤ limit) }
+        ensures many { result ≡ Err SetFault.TooMany → limit < length (cells_of self.now.cells) }
+        ensures range { result ≢ Err SetFault.Coordinates }
+    {
+        let ends = (Change::LowerEnd, Change::UpperEnd);
+        let axes = self.dimension as usize;
+        let Ok(found) = spread(alloc, &self.cells, axes, ends, limit as usize) else {
+            return Err(SetFault::NoMemory);
+        };
+        match found {
+            Some(cells) => Ok(CubeSet {
+                dimension: self.dimension,
+                cells,
+            }),
+            None => Err(SetFault::TooMany),
+        }
+    }
+
+    /// The set of all faces of the members, or `TooMany` exactly where they are more than `CUBES`.
+    pub fn closure(&self, alloc: Global) -> Result<CubeSet, SetFault>
+        ensures cells { IfOk result (λ s. s ≡ closure self.now) }
+        ensures few { OnOk result (length (cells_of self.now.cells) ≤ CUBES) }
+        ensures many { result ≡ Err SetFault.TooMany → CUBES < length (cells_of self.now.cells) }
+        ensures range { result ≢ Err SetFault.Coordinates }
+    {
+        self.closure_within(alloc, CUBES)
     }
 }

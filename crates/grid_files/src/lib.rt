@@ -2,6 +2,7 @@
 #![tactic(auto)]
 
 mod cells;
+mod change;
 mod corner;
 mod cube_set;
 mod fault;
@@ -13,12 +14,13 @@ mod reader;
 mod scanner;
 mod set_file;
 mod sorted;
+mod spread;
 mod whole_cube;
 mod write;
 
 pub use cube_set::{CubeSet, are_members};
-pub use fault::{CUBES, Kind, TextCause, TextFault};
-pub use laws::texts_have_one_outcome;
+pub use fault::{CUBES, Kind, SetFault, TextCause, TextFault};
+pub use laws::{cells_are_faces, texts_have_one_outcome};
 pub use set_file::read_set;
 pub use write::write_set;
 
