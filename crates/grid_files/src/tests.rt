@@ -1,7 +1,7 @@
 //! Sets of cells on small examples.
 ghost use Rattle.std.specs.Prelude.{◌≡◌, IfOk};
 
-use crate::{CubeSet, are_members, texts_have_one_outcome};
+use crate::{CubeSet, SetFault, are_members, cells_are_faces, texts_have_one_outcome};
 use elem_cubes::{Cell, Corner, MAX_EMBEDDING};
 use std::alloc::Global;
 use std::process::Abort;
@@ -63,7 +63,67 @@ fn unions_and_intersections(rt: HostRuntime) -> Result<(), Fail> {
     Ok(())
 }
 
+// The cell with this lower corner and these axes.
+fn cell(xs: &[i32], axes: u8) -> Result<Cell, Fail> {
+    let corner = Corner::of(xs).ok_or("no corner")?;
+    Ok(Cell::new(corner, axes).ok_or("no cell")?)
+}
+
+#[test]
+fn two_edges_in_a_row_have_five_cells(rt: HostRuntime) -> Result<(), Fail> {
+    let set = set_of(&rt, rt.alloc(), 1, &[&[1], &[0], &[1]])?;
+    let faces = set.closure(rt.alloc()).ok().ok_or("a closure")?;
+    assert_eq!(rt; faces.dimension(), 1);
+    let cells = [
+        cell(&[0], 0)?,
+        cell(&[0], 1)?,
+        cell(&[1], 0)?,
+        cell(&[1], 1)?,
+        cell(&[2], 0)?,
+    ];
+    assert!(rt; faces.cells() == cells.as_slice());
+    let again = faces.closure(rt.alloc()).ok().ok_or("a closure")?;
+    assert!(rt; again.cells() == cells.as_slice());
+    Ok(())
+}
+
+#[test]
+fn a_closure_is_given_up_to_its_limit(rt: HostRuntime) -> Result<(), Fail> {
+    let set = set_of(&rt, rt.alloc(), 2, &[&[0, 0], &[1, 1]])?;
+    let faces = set.closure_within(rt.alloc(), 17).ok().ok_or("a closure")?;
+    assert_eq!(rt; faces.len(), 17);
+    assert!(rt; set.closure_within(rt.alloc(), 16).err() == Some(SetFault::TooMany));
+    assert!(rt; set.closure_within(rt.alloc(), 1).err() == Some(SetFault::TooMany));
+    let none = CubeSet::of_cells(0, Vec::new(rt.alloc()))?;
+    let no_faces = none.closure_within(rt.alloc(), 0).ok().ok_or("a closure")?;
+    assert!(rt; no_faces.is_empty() && no_faces.dimension() == 0);
+    Ok(())
+}
+
+#[test]
+fn faces_of_cells_of_any_dimension_stand_in_order(rt: HostRuntime) -> Result<(), Fail> {
+    let mut cells = Vec::new(rt.alloc());
+    cells.push(cell(&[0, 0], 2)?)?;
+    cells.push(cell(&[0, 0], 1)?)?;
+    cells.push(cell(&[5, 5], 0)?)?;
+    let alike = are_members(2, &cells) && cells.len() < 100;
+    assert!(rt; alike);
+    let set = CubeSet::of_cells(2, cells)?;
+    let faces = set.closure(rt.alloc()).ok().ok_or("a closure")?;
+    let listed = [
+        cell(&[0, 0], 0)?,
+        cell(&[0, 0], 2)?,
+        cell(&[0, 0], 1)?,
+        cell(&[0, 1], 0)?,
+        cell(&[1, 0], 0)?,
+        cell(&[5, 5], 0)?,
+    ];
+    assert!(rt; faces.cells() == listed.as_slice());
+    Ok(())
+}
+
 #[test]
 fn laws_hold() {
     texts_have_one_outcome();
+    cells_are_faces();
 }
