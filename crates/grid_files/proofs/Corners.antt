@@ -1,5 +1,5 @@
 -- A number that goes on with a corner.
-use Rattle.std.proofs.Common.{◌≡◌, ℤ, List, [], ◌∷◌, ◌++◌, Bool, true, false, if◌then◌else◌, Option, None, Some, refl, ap, ◌∙◌, sym}
+use Rattle.std.proofs.Common.{◌≡◌, ℤ, List, [], ◌∷◌, ◌++◌, Bool, true, false, if◌then◌else◌, None, Some, refl, ap, ◌∙◌, sym}
 use Rattle.grid_files.specs.Items.{Open}
 use Rattle.grid_files.specs.Reading.{Step, goes, stops, in_corner}
 use Rattle.grid_files.specs.Corners.{end_test}

@@ -1,6 +1,6 @@
 -- The cells of a set: what they are, and that spreading to the ends along all axes gives them.
-use Rattle.std.proofs.Common.{◌≡◌, ◌⊎◌, inl, inr, ⊎_elim, ℕ, ◌<◌, ◌≤◌, ◌^◌, refl, sym, ap, ◌∙◌, subst, arith, List, [], ◌∷◌, length, Bool, true, false, ◌&&◌, ◌==◌, true≢false}
-use Rattle.std.specs.List.{list_all, list_any, flat_map}
+use Rattle.std.proofs.Common.{◌≡◌, inl, inr, ⊎_elim, ℕ, ◌<◌, ◌^◌, refl, sym, ap, ◌∙◌, subst, arith, List, [], ◌∷◌, length, true, ◌==◌, true≢false}
+use Rattle.std.specs.List.{list_all, flat_map}
 use Rattle.std.specs.List.Sorted.{IsStrictlySortedBy}
 use Rattle.std.specs.Cmp.{both_ways}
 use Rattle.std.proofs.lemmas.Bool.{or_cases, eqb-true, eq-eqb}
@@ -17,7 +17,7 @@ use Rattle.grid_files.specs.Sets.{Members, IsCubeSet, is_member}
 use Rattle.grid_files.specs.Closures.{is_cell_of, cells_of, closure, CellsAreFaces}
 use Rattle.grid_files.specs.Changes.{spread}
 use Rattle.grid_files.specs.declared.change.Change.TheVariants.{LowerEnd, UpperEnd}
-use Rattle.grid_files.proofs.Merging.{has-union, sorted-union}
+use Rattle.grid_files.proofs.Merging.{sorted-union}
 use Rattle.grid_files.proofs.Sorting.{and_true}
 use Rattle.grid_files.proofs.Finishing.{same_sets}
 use Rattle.grid_files.proofs.Spreading.{spread_face, face_spread}

@@ -1,18 +1,18 @@
 -- What the relations say of a text is what the reading function answers: so a text has one value or one refusal.
-use Rattle.std.proofs.Common.{◌≡◌, ℕ, ℤ, List, [], ◌∷◌, ◌++◌, length, map, Bool, true, false, ◌==◌, ◌&&◌, not, cond, if◌then◌else◌, Option, None, Some, Result, Ok, Err, refl, sym, ap, ◌∙◌, subst, append_assoc, arith, ◌⊎◌, inl, inr, ⊎_elim}
+use Rattle.std.proofs.Common.{◌≡◌, ℕ, ℤ, List, [], ◌∷◌, ◌++◌, map, Bool, true, not, if◌then◌else◌, Some, Ok, Err, refl, sym, ap, ◌∙◌, subst, append_assoc, ⊎_elim}
 use Rattle.std.specs.List.{list_all}
 use Rattle.std.proofs.lemmas.List.{append-nil}
 use Rattle.elem_cubes.specs.Corners.{is_file_end}
 use Rattle.grid_files.specs.Sets.{Members}
-use Rattle.grid_files.specs.Items.{Item, full, elementary, dimension_line, skipped_line, Open, nothing, in_full, before_lower, in_lower, before_upper, in_upper, before_end, behind_word, spelling, opened, closed, fits, fits_corner, is_empty, is_full_end, beginning, fits_open, refused, cause_of, with_item}
-use Rattle.grid_files.specs.SetFile.{said, first_place, IsItem, Splits, Gathers, fault_place, BeginsRefused, BeginsBroken, StopsAt, Refuses, is_open}
+use Rattle.grid_files.specs.Items.{Item, full, elementary, dimension_line, skipped_line, Open, nothing, in_full, before_lower, in_lower, before_upper, in_upper, before_end, behind_word, opened, closed, fits_corner, is_empty, is_full_end, beginning, fits_open, cause_of, with_item}
+use Rattle.grid_files.specs.SetFile.{said, first_place, IsItem, Splits, Gathers, fault_place, StopsAt, Refuses}
 use Rattle.grid_files.specs.declared.fault.Kind.{Kind}
 use Rattle.grid_files.specs.declared.fault.TextCause.{TextCause}
 use Rattle.grid_files.specs.declared.fault.TextCause.TheVariants.{Unclosed}
 use Rattle.grid_files.specs.declared.piece.Piece.{Piece}
 use Rattle.grid_files.specs.declared.piece.Piece.TheVariants.{Number, Mark, SkippedLine, DimensionWord, DimensionNumber}
-use Rattle.grid_files.specs.Reading.{Step, goes, closes, stops, in_corner, step, next, judged, start_of, closing_place, Outcome, read}
-use Rattle.grid_files.proofs.Reading.{agrees, cause_in, and_both, both_and}
+use Rattle.grid_files.specs.Reading.{Step, goes, closes, stops, in_corner, step, next, judged, start_of, closing_place, read}
+use Rattle.grid_files.proofs.Reading.{agrees, cause_in, and_both}
 
 -- the first of some pieces, and a cut between them
 split_first : (here : List (ℕ × Piece)) (p : Piece) (ps : List Piece) → said here ≡ p ∷ ps

@@ -1,20 +1,19 @@
 -- What one more cube or dimension line makes of the set that is read.
-use Rattle.std.proofs.Common.{◌≡◌, ◌⊎◌, inl, inr, ⊎_elim, ℕ, zero, suc, ◌+◌, ◌<◌, ◌≤◌, ◌^◌, ℤ, List, [], ◌∷◌, ◌++◌, length, Bool, true, false, ◌&&◌, ◌||◌, not, ◌==◌, nat_lt, if◌then◌else◌, Option, None, Some, Result, Ok, Err, IsTrue, refl, sym, ap, ◌∙◌, subst, arith, length-append}
+use Rattle.std.proofs.Common.{◌≡◌, ◌⊎◌, inl, inr, ⊎_elim, ℕ, suc, ◌<◌, ◌≤◌, ℤ, List, [], ◌∷◌, ◌++◌, length, Bool, true, false, ◌||◌, ◌==◌, nat_lt, if◌then◌else◌, None, Some, Result, Ok, Err, refl, sym, ap, ◌∙◌, subst, arith, length-append}
 use Rattle.std.specs.Result.{is_err, OnOk}
 use Rattle.std.specs.List.{list_any, list_all}
 use Rattle.std.specs.List.Sorted.{IsStrictlySortedBy}
-use Rattle.std.specs.Cmp.{IsTotalOrder}
 use Rattle.std.specs.Ordering.{is_eq, ordering_reverse}
 use Rattle.std.specs.declared.cmp.Ordering.{Ordering}
 use Rattle.std.specs.declared.cmp.Ordering.TheVariants.{Less, Equal, Greater}
-use Rattle.std.proofs.lemmas.Bool.{cases_Bool, true≢false}
+use Rattle.std.proofs.lemmas.Bool.{true≢false}
 use Rattle.std.proofs.lemmas.Bool.Decides.{nat_tests}
 use Rattle.std.proofs.lemmas.List.Folds.{list_any-append}
 use Rattle.elem_cubes.specs.declared.range.TheConstants.{MAX_EMBEDDING}
-use Rattle.elem_cubes.specs.Cells.{Factor, same_cell, is_file_factor, is_cell}
+use Rattle.elem_cubes.specs.Cells.{Factor, same_cell, is_file_factor}
 use Rattle.elem_cubes.specs.Order.{cell_cmp}
 use Rattle.elem_cubes.specs.OrderLemmas.{cell_cmp_total, cell_cmp_ties}
-use Rattle.grid_files.specs.Sorted.{has, by_order, inserted}
+use Rattle.grid_files.specs.Sorted.{has, inserted}
 use Rattle.grid_files.specs.Sets.{Members, IsCubeSet, is_member, dimensions_agree}
 use Rattle.grid_files.specs.Items.{cell_cause, with_cell, is_wanted}
 use Rattle.grid_files.specs.Items.{Item, full, elementary, dimension_line, skipped_line, fits, fits_corner, is_full_end}
@@ -26,8 +25,7 @@ use Rattle.grid_files.specs.declared.opening.Closing.{Closing}
 use Rattle.grid_files.specs.declared.opening.Closing.TheVariants as closings
 use Rattle.grid_files.specs.Readers.{IsGathered}
 use Rattle.grid_files.specs.declared.fault.Kind.{Kind}
-use Rattle.grid_files.specs.declared.fault.TextCause.{TextCause}
-use Rattle.grid_files.specs.declared.fault.TextCause.TheVariants.{MixedDimension, NotFull, TooMany}
+use Rattle.grid_files.specs.declared.fault.TextCause.TheVariants.{TooMany}
 use Rattle.grid_files.specs.declared.fault.TheConstants.{CUBES}
 use Rattle.grid_files.specs.declared.gathered.Gathered.{Gathered}
 use Rattle.grid_files.proofs.Merging.{by_cases, has-inserted, sorted-inserted, above, same', below_further}

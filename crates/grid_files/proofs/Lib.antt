@@ -18,3 +18,7 @@ pub mod Few
 pub mod Spreading
 pub mod Spreads
 pub mod Covering
+pub mod Near
+pub mod Neighbouring
+pub mod Telling
+pub mod Rereading

@@ -1,12 +1,12 @@
 -- Sorted lists: what one more value does, and the steps of a merge.
-use Rattle.std.proofs.Common.{◌≡◌, ℕ, zero, suc, ◌+◌, ◌<◌, ◌≤◌, List, [], ◌∷◌, ◌++◌, length, drop, get_or, Bool, true, false, ◌||◌, cond, refl, sym, ap, ◌∙◌, subst, arith, rules}
-use Rattle.std.specs.List.{list_any, AllByRecursion, dedup}
+use Rattle.std.proofs.Common.{◌≡◌, List, [], ◌∷◌, Bool, true, false, ◌||◌, refl, ap, ◌∙◌}
+use Rattle.std.specs.List.{AllByRecursion}
 use Rattle.std.specs.List.Sorted.{IsStrictlySortedBy}
 use Rattle.std.specs.Cmp.{IsTotalOrder}
-use Rattle.std.specs.Ordering.{is_eq, ordering_reverse, eq_by_cmp}
+use Rattle.std.specs.Ordering.{is_eq, ordering_reverse}
 use Rattle.std.specs.declared.cmp.Ordering.{Ordering}
 use Rattle.std.specs.declared.cmp.Ordering.TheVariants.{Less, Equal, Greater}
-use Rattle.grid_files.specs.Sorted.{has, by_order, inserted, union_of, intersection_of}
+use Rattle.grid_files.specs.Sorted.{has, by_order, inserted, union_of}
 
 -- below every value of the list
 abbrev pub IsBelow : {K : Type 0} → (K → K → Ordering) → K → List K → Type 0

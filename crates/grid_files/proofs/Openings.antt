@@ -1,10 +1,9 @@
 -- A corner that goes on, closes or stops, in the item that it stands in.
-use Rattle.std.proofs.Common.{◌≡◌, ℤ, List, Bool, true, false, refl, sym, ap, ◌∙◌, subst}
-use Rattle.elem_cubes.specs.Corners.{is_file_end}
-use Rattle.grid_files.specs.Items.{Item, full, elementary, dimension_line, skipped_line, Open, nothing, in_full, before_lower, in_lower, before_upper, in_upper, before_end, behind_word, is_full_end}
-use Rattle.grid_files.specs.Reading.{Step, goes, closes, stops, in_corner, step}
+use Rattle.std.proofs.Common.{◌≡◌, ℤ, List, Bool, true, false, refl, sym, subst}
+use Rattle.grid_files.specs.Items.{full, Open, in_full, in_lower, before_upper, in_upper, before_end}
+use Rattle.grid_files.specs.Reading.{Step, goes, closes, in_corner, step}
 use Rattle.grid_files.specs.Corners.{IsCorner, LeadsIn, end_test}
-use Rattle.grid_files.specs.Openings.{IsOpening, IsClosing, StepsAs}
+use Rattle.grid_files.specs.Openings.{IsOpening, StepsAs}
 use Rattle.grid_files.specs.declared.corner.OpenCorner.{OpenCorner}
 use Rattle.grid_files.specs.declared.corner.CornerStep.{CornerStep}
 use Rattle.grid_files.specs.declared.corner.CornerStep.TheVariants.{More, Close, Stop}

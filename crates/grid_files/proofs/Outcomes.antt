@@ -1,5 +1,5 @@
 -- The outcome of a text: a value or a refusal, and one of them alone.
-use Rattle.std.proofs.Common.{◌≡◌, ◌⊎◌, inl, inr, ℕ, List, Result, Ok, Err, sym, ap, ◌∙◌}
+use Rattle.std.proofs.Common.{◌≡◌, ◌⊎◌, inl, inr, ℕ, List, Ok, Err, ap}
 use Rattle.grid_files.specs.Sets.{Members}
 use Rattle.grid_files.specs.Items.{nothing}
 use Rattle.grid_files.specs.Pieces.{pieces}
@@ -7,7 +7,6 @@ use Rattle.grid_files.specs.SetFile.{HasValue, IsRefusedAt, no_members}
 use Rattle.grid_files.specs.Laws.{TextsHaveOneOutcome}
 use Rattle.grid_files.specs.declared.fault.Kind.{Kind}
 use Rattle.grid_files.specs.declared.fault.TextCause.{TextCause}
-use Rattle.grid_files.specs.declared.piece.Piece.{Piece}
 use Rattle.grid_files.specs.Reading.{Outcome, read}
 use Rattle.grid_files.proofs.Reading.{Told, told}
 use Rattle.grid_files.proofs.Deciding.{value_read, refusal_read}

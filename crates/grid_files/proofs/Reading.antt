@@ -1,18 +1,17 @@
 -- The reading of a set file as a function of its pieces says what the relations say.
-use Rattle.std.proofs.Common.{◌≡◌, ℕ, ℤ, List, [], ◌∷◌, ◌++◌, length, map, Bool, true, false, ◌==◌, ◌&&◌, ◌||◌, not, cond, if◌then◌else◌, Option, None, Some, Result, Ok, Err, refl, sym, ap, ◌∙◌, subst, append_assoc, arith, ◌⊎◌, inl, inr, ⊎_elim, length-append}
+use Rattle.std.proofs.Common.{◌≡◌, ℕ, ℤ, List, [], ◌∷◌, ◌++◌, length, Bool, true, false, ◌==◌, ◌&&◌, ◌||◌, not, if◌then◌else◌, Option, None, Some, Ok, Err, refl, sym, ap, ◌∙◌, subst, append_assoc, arith, inl, inr, length-append}
 use Rattle.std.specs.List.{list_all}
 use Rattle.std.proofs.lemmas.List.{map-append, length-map}
-use Rattle.std.proofs.lemmas.Bool.{cases_Bool}
 use Rattle.std.proofs.lemmas.List.Folds.{list_all-append}
 use Rattle.std.proofs.lemmas.Bool.Decides.{nat_tests}
 use Rattle.elem_cubes.specs.Corners.{is_file_end}
 use Rattle.grid_files.specs.Sets.{Members}
 use Rattle.grid_files.specs.Items.{Item, full, elementary, dimension_line, skipped_line, Open, nothing, in_full, before_lower, in_lower, before_upper, in_upper, before_end, behind_word, spelling, opened, closed, fits, fits_corner, is_empty, is_full_end, beginning, fits_open, refused, refused_in_corner, refused_for_mark, cause_of, with_item}
-use Rattle.grid_files.specs.SetFile.{said, first_place, IsItem, Splits, Gathers, fault_place, BeginsRefused, BeginsBroken, StopsAt, Refuses, is_open}
+use Rattle.grid_files.specs.SetFile.{said, first_place, IsItem, Splits, Gathers, fault_place, Refuses, is_open}
 use Rattle.grid_files.specs.Reading.{Step, goes, closes, stops, in_corner, for_mark, step, next, judged, start_of, closing_place, Outcome, read}
 use Rattle.grid_files.specs.declared.fault.Kind.{Kind}
 use Rattle.grid_files.specs.declared.fault.TextCause.{TextCause}
-use Rattle.grid_files.specs.declared.fault.TextCause.TheVariants.{BadByte, BadNumber, Unclosed, CoordinateTooLarge}
+use Rattle.grid_files.specs.declared.fault.TextCause.TheVariants.{BadByte, Unclosed, CoordinateTooLarge}
 use Rattle.grid_files.specs.declared.piece.Piece.{Piece}
 use Rattle.grid_files.specs.declared.piece.Piece.TheVariants.{Number, Wide, Mark, Strange, SkippedLine, DimensionWord, DimensionNumber, NoNumber, Stray}
 

@@ -1,10 +1,10 @@
 -- A piece leads the reading on, or is refused, as the reading function says.
-use Rattle.std.proofs.Common.{◌≡◌, ℕ, ◌+◌, List, [], ◌∷◌, ◌++◌, Bool, true, false, Option, None, Some, Result, Ok, Err, refl, sym, ap, ◌∙◌, subst}
+use Rattle.std.proofs.Common.{◌≡◌, ℕ, ◌+◌, List, ◌∷◌, true, Option, None, Some, Result, Ok, Err, refl, sym, ap, ◌∙◌, subst}
 use Rattle.grid_files.specs.Sets.{Members}
 use Rattle.grid_files.specs.Items.{Item, Open, nothing, fits, fits_open, cause_of, with_item}
 use Rattle.grid_files.specs.Reading.{Step, goes, closes, stops, step, read, judged, start_of, closing_place}
 use Rattle.grid_files.specs.Openings.{IsOpening, IsClosing, StepsAs}
-use Rattle.grid_files.specs.Readers.{IsGathered, Joins}
+use Rattle.grid_files.specs.Readers.{IsGathered}
 use Rattle.grid_files.specs.Scanning.{left, listed, Scans}
 use Rattle.grid_files.specs.Readings.{Reads, LeadsOn, Leads, FeedsOn, Feeds}
 use Rattle.grid_files.specs.declared.fault.TextFault.{TextFault}

@@ -1,20 +1,20 @@
 -- What one byte does to what a scanner has still to tell.
-use Rattle.std.proofs.Common.{◌≡◌, ℕ, ℤ, ◌+◌, ◌-◌, ◌*◌, ◌<◌, ◌≤◌, suc, zero, min, List, [], ◌∷◌, ◌++◌, length, drop, get_or, Bool, true, false, ◌==◌, ◌&&◌, not, cond, if◌then◌else◌, nat_eq, nat_lt, nat_le, Option, None, Some, refl, sym, ap, ◌∙◌, subst, arith, take_while, take, ◌⊎◌, ⊎_elim, ◌^◌, pos, neg_ℤ}
+use Rattle.std.proofs.Common.{◌≡◌, ℕ, ℤ, ◌+◌, ◌-◌, ◌*◌, ◌<◌, ◌≤◌, suc, zero, min, List, [], ◌∷◌, ◌++◌, length, drop, get_or, Bool, true, false, ◌==◌, ◌&&◌, not, cond, if◌then◌else◌, nat_eq, nat_lt, nat_le, None, Some, refl, sym, ap, ◌∙◌, arith, take_while, take, ◌⊎◌, ⊎_elim, ◌^◌, pos, neg_ℤ}
 use Rattle.std.specs.Cmp.Lexicographic.{pointwise}
 use Rattle.std.specs.List.{prefix_len}
 use Rattle.std.specs.Char.{is_ascii_digit, is_ascii_alphabetic}
 use Rattle.std.proofs.lemmas.List.{drop_more, drop_all}
 use Rattle.std.proofs.lemmas.Bool.{cases_Bool}
 use Rattle.std.proofs.lemmas.Bool.Decides.{nat_tests}
-use Rattle.outside.specs.Tokens.{Lexeme, number, wide, arrow, word, mark, other, is_mark, is_blank, letters_of, line_of, digits_of, digits_value, number_of, dashed, dashed_size, tokens_behind}
+use Rattle.outside.specs.Tokens.{Lexeme, number, wide, arrow, word, mark, other, is_mark, is_blank, letters_of, line_of, digits_of, digits_value, number_of, tokens_behind}
 use Rattle.grid_files.specs.declared.piece.Piece.{Piece}
-use Rattle.grid_files.specs.declared.piece.Piece.TheVariants.{Strange, SkippedLine, DimensionWord, DimensionNumber, NoNumber, Stray}
+use Rattle.grid_files.specs.declared.piece.Piece.TheVariants.{SkippedLine, DimensionWord, DimensionNumber, NoNumber, Stray}
 use Rattle.grid_files.specs.declared.piece.TheConstants.{DIMENSION}
 use Rattle.grid_files.specs.declared.scanner.TheConstants.{CAP}
 use Rattle.grid_files.specs.declared.scanner.Carry.{Carry}
 use Rattle.grid_files.specs.declared.scanner.Carry.TheVariants.{Between, Line, Dash, Digits, Word, Behind, BehindDash, BehindDigits, AfterNumber}
-use Rattle.grid_files.specs.Pieces.{piece_of, pieces_behind, word_line, numbered, number_line, stray_of}
-use Rattle.grid_files.specs.Scanning.{listed, left, behind_line, number_in}
+use Rattle.grid_files.specs.Pieces.{piece_of, pieces_behind, numbered, number_line, stray_of}
+use Rattle.grid_files.specs.Scanning.{left, behind_line, number_in}
 
 pub letter_no_line : (b : ℕ) → is_ascii_alphabetic b ≡ true → (b == 10) ≡ false
 letter_no_line b h = grind (arith, nat_tests)

@@ -1,12 +1,12 @@
 -- A whole text is read byte by byte.
-use Rattle.std.proofs.Common.{◌≡◌, ℕ, ◌+◌, ◌<◌, ◌≤◌, List, [], ◌∷◌, length, drop, get_or, Bool, true, false, if◌then◌else◌, Option, Result, Ok, Err, refl, sym, ap, ◌∙◌, subst, arith}
+use Rattle.std.proofs.Common.{◌≡◌, ℕ, ◌+◌, ◌<◌, ◌≤◌, List, [], ◌∷◌, length, drop, get_or, if◌then◌else◌, Result, Ok, Err, sym, ap, ◌∙◌, subst}
 use Rattle.std.specs.Result.{IfOk, IfErr}
 use Rattle.std.proofs.lemmas.List.{drop_more, drop_all}
 use Rattle.grid_files.specs.Sets.{Members}
 use Rattle.grid_files.specs.Items.{Open, nothing}
 use Rattle.grid_files.specs.Pieces.{pieces}
 use Rattle.grid_files.specs.Reading.{read, Outcome}
-use Rattle.grid_files.specs.SetFile.{HasValue, IsRefusedAt, no_members, is_open}
+use Rattle.grid_files.specs.SetFile.{HasValue, IsRefusedAt, no_members}
 use Rattle.grid_files.specs.Faults.{IsFaultOf}
 use Rattle.grid_files.specs.Scanning.{left, IsCarry}
 use Rattle.grid_files.specs.Readings.{Reads, FeedsOn, Feeds, Ends}

@@ -1,6 +1,6 @@
 -- Which cells come from a cell by changes along the first axes.
-use Rattle.std.proofs.Common.{◌≡◌, ◌⊎◌, inl, inr, ⊎_elim, ℕ, zero, suc, ◌≤◌, refl, sym, ap, ◌∙◌, subst, arith, List, [], ◌∷◌, length, set, true, false, true≢false}
-use Rattle.std.specs.Prelude.{ℤ, pos, ◌+ℤ◌}
+use Rattle.std.proofs.Common.{◌≡◌, ◌⊎◌, inl, inr, ℕ, zero, suc, ◌≤◌, refl, sym, ap, subst, arith, List, [], ◌∷◌, length, set, true, true≢false}
+use Rattle.std.specs.Prelude.{ℤ}
 use Rattle.elem_cubes.specs.Cells.{Factor, point, interval, low, is_wide}
 use Rattle.elem_cubes.specs.Faces.{IsPart, IsFace}
 use Rattle.elem_cubes.specs.Walks.{factor_at}

@@ -1,14 +1,13 @@
 -- The steps of a merge of two sorted lists, at a place in each.
-use Rattle.std.proofs.Common.{◌≡◌, ℕ, zero, suc, ◌+◌, ◌-◌, ◌<◌, ◌≤◌, List, [], ◌∷◌, ◌++◌, length, drop, get_or, Bool, true, false, ◌||◌, cond, refl, sym, ap, ◌∙◌, subst, arith, filter, append_assoc, add-one, length-append, length-drop, ◌⊎◌, ⊎_elim, Option, None, Some, IfNone, IsSome, rules}
-use Rattle.std.specs.List.{list_any}
+use Rattle.std.proofs.Common.{◌≡◌, ℕ, zero, suc, ◌+◌, ◌<◌, ◌≤◌, List, [], ◌∷◌, ◌++◌, length, drop, get_or, true, false, cond, refl, sym, ap, ◌∙◌, subst, arith, append_assoc, length-append, length-drop, ◌⊎◌, ⊎_elim, Option, None, Some, IfNone, IsSome, rules}
 use Rattle.std.specs.List.Sorted.{IsStrictlySortedBy}
 use Rattle.std.specs.Cmp.{IsTotalOrder}
-use Rattle.std.specs.Ordering.{is_eq, ordering_reverse}
+use Rattle.std.specs.Ordering.{is_eq}
 use Rattle.std.specs.declared.cmp.Ordering.{Ordering}
 use Rattle.std.specs.declared.cmp.Ordering.TheVariants.{Less, Equal, Greater}
 use Rattle.std.proofs.lemmas.Bool.{cases_lt}
 use Rattle.std.proofs.lemmas.List.{drop_more, drop_all, append-nil}
-use Rattle.grid_files.specs.Sorted.{has, by_order, inserted, union_of, intersection_of}
+use Rattle.grid_files.specs.Sorted.{has, inserted, union_of, intersection_of}
 use Rattle.grid_files.proofs.Merging.{IsBelow, by_cases, above, above', same', below_further, below_same, union_left, union_right, union_both, union-nil}
 
 pub sorted-drop : {K : Type 0} (cmp : K → K → Ordering) (n : ℕ) (xs : List K) → IsStrictlySortedBy cmp xs → IsStrictlySortedBy cmp (drop n xs)

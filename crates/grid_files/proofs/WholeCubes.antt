@@ -1,5 +1,5 @@
 -- Whole cubes: the corners that are kept are those of the text, and their cells are in range.
-use Rattle.std.proofs.Common.{◌≡◌, ℕ, zero, suc, ◌+◌, ◌-◌, ◌*◌, ◌/◌, ◌%◌, ◌^◌, ◌<◌, ◌≤◌, min, max, ℤ, pos, negsuc, ◌+ℤ◌, List, [], ◌∷◌, length, take, drop, get_or, map, Bool, true, false, ◌&&◌, not, nat_le, nat_lt, int_le, if◌then◌else◌, Option, None, Some, IsTrue, refl, sym, ap, ◌∙◌, subst, arith, ◌==◌, Result, Ok, Err, add-one}
+use Rattle.std.proofs.Common.{◌≡◌, ℕ, zero, suc, ◌+◌, ◌*◌, ◌/◌, ◌%◌, ◌^◌, ◌<◌, ◌≤◌, max, ℤ, pos, ◌+ℤ◌, List, [], ◌∷◌, length, take, drop, get_or, map, Bool, true, false, ◌&&◌, not, nat_le, nat_lt, if◌then◌else◌, Option, None, Some, refl, sym, ap, ◌∙◌, subst, arith, ◌==◌, Result, Ok, add-one}
 use Rattle.std.specs.List.{list_all}
 use Rattle.std.specs.Ordering.{int_eq}
 use Rattle.std.proofs.lemmas.Int.{ints}

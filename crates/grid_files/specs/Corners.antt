@@ -1,5 +1,5 @@
 -- What is kept of the corner of a cube that is being read.
-use Rattle.std.specs.Prelude.{◌≡◌, ℕ, ◌+◌, ◌≤◌, ℤ, min, List, [], ◌∷◌, length, take, Bool, true, false, Option, Some, Result, Ok, Err}
+use Rattle.std.specs.Prelude.{◌≡◌, ℕ, ◌+◌, ◌≤◌, ℤ, min, List, length, take, Bool, true, false, Option, Some, Result, Ok, Err}
 use Rattle.std.specs.List.{list_all}
 use Rattle.elem_cubes.specs.Cells.{Factor, is_file_factor}
 use Rattle.grid_files.specs.Sets.{Members}

@@ -1,5 +1,5 @@
 -- The items of a set file: their texts, their beginnings, and what a set becomes by them.
-use Rattle.std.specs.Prelude.{ℕ, ◌≤◌, ℤ, pos, negsuc, ◌+ℤ◌, int_le, List, [], ◌∷◌, ◌++◌, length, map, max, Bool, true, false, ◌==◌, ◌&&◌, ◌||◌, not, nat_lt, if◌then◌else◌, Option, None, Some}
+use Rattle.std.specs.Prelude.{ℕ, ℤ, pos, negsuc, ◌+ℤ◌, List, [], ◌∷◌, ◌++◌, length, map, max, Bool, true, false, ◌==◌, ◌&&◌, ◌||◌, not, nat_lt, if◌then◌else◌, Option, None, Some}
 use Rattle.std.specs.List.{list_all}
 use Rattle.std.specs.Ordering.{int_eq}
 use Rattle.elem_cubes.specs.declared.range.TheConstants.{MAX_EMBEDDING}
@@ -11,10 +11,10 @@ use Rattle.grid_files.specs.Sets.{Members, dimensions_agree}
 use Rattle.grid_files.specs.declared.fault.Kind.{Kind}
 use Rattle.grid_files.specs.declared.fault.Kind.TheVariants.{Any, Full}
 use Rattle.grid_files.specs.declared.fault.TextCause.{TextCause}
-use Rattle.grid_files.specs.declared.fault.TextCause.TheVariants.{BadByte, BadNumber, Unclosed, MixedDimension, DimensionTooLarge, CoordinateTooLarge, NotElementary, NotFull, TooMany}
+use Rattle.grid_files.specs.declared.fault.TextCause.TheVariants.{BadByte, BadNumber, MixedDimension, DimensionTooLarge, CoordinateTooLarge, NotElementary, NotFull, TooMany}
 use Rattle.grid_files.specs.declared.fault.TheConstants.{CUBES}
 use Rattle.grid_files.specs.declared.piece.Piece.{Piece}
-use Rattle.grid_files.specs.declared.piece.Piece.TheVariants.{Number, Wide, Mark, Strange, SkippedLine, DimensionWord, DimensionNumber, NoNumber, Stray}
+use Rattle.grid_files.specs.declared.piece.Piece.TheVariants.{Number, Wide, Mark, SkippedLine, DimensionWord, DimensionNumber}
 
 -- An item: a full cube by its lower corner, an elementary cube by both corners, a dimension line, a skipped line.
 pub data Item : Type 0 where

@@ -1,10 +1,15 @@
--- The law of set files: a text has exactly one value, or is refused at exactly one place with one cause.
-use Rattle.std.specs.Prelude.{◌≡◌, ◌⊎◌, ℕ, List}
-use Rattle.grid_files.specs.Sets.{Members}
+-- The laws of set files.
+use Rattle.std.specs.Prelude.{◌≡◌, ◌⊎◌, ◌≤◌, ℕ, List, length, true}
+use Rattle.std.specs.List.{list_all}
+use Rattle.grid_files.specs.Items.{is_wanted}
+use Rattle.grid_files.specs.Sets.{Members, IsCubeSet}
 use Rattle.grid_files.specs.SetFile.{HasValue, IsRefusedAt}
+use Rattle.grid_files.specs.Written.{written}
 use Rattle.grid_files.specs.declared.fault.Kind.{Kind}
 use Rattle.grid_files.specs.declared.fault.TextCause.{TextCause}
+use Rattle.grid_files.specs.declared.fault.TheConstants.{CUBES}
 
+-- a text has exactly one value, or is refused at exactly one place with one cause
 pub record TextsHaveOneOutcome : Type 0 where
   pub some : (kind : Kind) (text : List ℕ)
       → ((set : Members) × HasValue kind text set) ⊎ ((place : ℕ) × (cause : TextCause) × IsRefusedAt kind text place cause)
@@ -12,3 +17,7 @@ pub record TextsHaveOneOutcome : Type 0 where
   pub one_place : (kind : Kind) (text : List ℕ) (place other : ℕ) (cause why : TextCause)
       → IsRefusedAt kind text place cause → IsRefusedAt kind text other why → (place ≡ other) × (cause ≡ why)
   pub never_both : (kind : Kind) (text : List ℕ) (set : Members) (place : ℕ) (cause : TextCause) → HasValue kind text set → ¬ IsRefusedAt kind text place cause
+
+-- the written form of a set that is not too large has the set as its value, under each kind that wants its cells
+abbrev pub WrittenSetsAreRead : Type 0
+WrittenSetsAreRead = (kind : Kind) (set : Members) → IsCubeSet set → length set.cells ≤ CUBES → list_all (is_wanted kind) set.cells ≡ true → HasValue kind (written set) set

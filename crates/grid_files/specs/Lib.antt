@@ -14,3 +14,4 @@ pub mod Faults
 pub mod Written
 pub mod Changes
 pub mod Closures
+pub mod Neighbours

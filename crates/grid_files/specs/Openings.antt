@@ -1,6 +1,5 @@
 -- What is kept of the beginning of an item, and what a piece does there.
-use Rattle.std.specs.Prelude.{◌≡◌, ◌+◌, ◌≤◌, ℤ, List}
-use Rattle.elem_cubes.specs.declared.range.TheConstants.{MAX_EMBEDDING}
+use Rattle.std.specs.Prelude.{◌≡◌}
 use Rattle.grid_files.specs.Items.{Item, full, elementary, dimension_line, skipped_line, Open, nothing, in_full, before_lower, in_lower, before_upper, in_upper, before_end, behind_word}
 use Rattle.grid_files.specs.Reading.{Step, goes, closes, stops}
 use Rattle.grid_files.specs.Corners.{IsCorner}

@@ -1,5 +1,5 @@
 -- The pieces of a set file: its tokens, where a word takes the rest of its line with it.
-use Rattle.std.specs.Prelude.{ℕ, zero, suc, ◌+◌, ℤ, List, [], ◌∷◌, ◌++◌, length, drop, Bool, ◌==◌, if◌then◌else◌, nat_eq}
+use Rattle.std.specs.Prelude.{ℕ, zero, suc, ◌+◌, List, [], ◌∷◌, ◌++◌, length, drop, Bool, ◌==◌, if◌then◌else◌, nat_eq}
 use Rattle.std.specs.Cmp.Lexicographic.{pointwise}
 use Rattle.std.specs.Char.{is_ascii_alphabetic}
 use Rattle.outside.specs.Tokens.{Lexeme, number, wide, arrow, word, mark, other, is_blank, letters_of, line_of, lexeme_at, size_behind, tokens_behind}

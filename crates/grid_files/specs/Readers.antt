@@ -1,20 +1,11 @@
 -- What a reader of set files keeps of a reading, and what its calls do.
-use Rattle.std.specs.Prelude.{◌≡◌, ◌≤◌, ℕ, ◌+◌, ℤ, List, [], ◌∷◌, length, true, Option, None, Some, Result, Ok, Err}
+use Rattle.std.specs.Prelude.{◌≡◌, ◌≤◌, List, length, Option, None, Some, Result, Ok, Err}
 use Rattle.elem_cubes.specs.Cells.{Factor}
 use Rattle.elem_cubes.specs.Order.{cell_cmp}
 use Rattle.grid_files.specs.Sorted.{has}
 use Rattle.grid_files.specs.Sets.{Members, IsCubeSet}
-use Rattle.grid_files.specs.Items.{Item, Open, cause_of, with_item, with_cell, cell_cause, dimension_cause, natural, fits_open}
-use Rattle.grid_files.specs.Reading.{read}
-use Rattle.grid_files.specs.Openings.{IsOpening}
-use Rattle.grid_files.specs.Scanning.{left, IsCarry}
-use Rattle.grid_files.specs.declared.fault.Kind.{Kind}
 use Rattle.grid_files.specs.declared.fault.TextCause.{TextCause}
-use Rattle.grid_files.specs.declared.fault.TextFault.{TextFault}
-use Rattle.grid_files.specs.declared.fault.TextFault.TheVariants as faults
 use Rattle.grid_files.specs.declared.fault.TheConstants.{CUBES}
-use Rattle.grid_files.specs.declared.piece.Piece.{Piece}
-use Rattle.grid_files.specs.declared.scanner.Carry.{Carry}
 use Rattle.grid_files.specs.declared.gathered.Gathered.{Gathered}
 use Rattle.grid_files.specs.declared.gathered.Refusal.{Refusal}
 use Rattle.grid_files.specs.declared.gathered.Refusal.TheVariants as refusals

@@ -8,7 +8,7 @@ use Rattle.grid_files.specs.declared.fault.Kind.{Kind}
 use Rattle.grid_files.specs.declared.fault.TextCause.{TextCause}
 use Rattle.grid_files.specs.declared.fault.TextCause.TheVariants.{BadByte, BadNumber, Unclosed, CoordinateTooLarge}
 use Rattle.grid_files.specs.declared.piece.Piece.{Piece}
-use Rattle.grid_files.specs.declared.piece.Piece.TheVariants.{Number, Wide, Mark, Strange, SkippedLine, DimensionWord, DimensionNumber, NoNumber, Stray}
+use Rattle.grid_files.specs.declared.piece.Piece.TheVariants.{Number, Wide, Mark, SkippedLine, DimensionWord, DimensionNumber}
 
 -- what a piece does behind the beginning of an item
 pub data Step : Type 0 where

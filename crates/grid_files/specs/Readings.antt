@@ -1,11 +1,11 @@
 -- What the calls of a reader of set files do.
-use Rattle.std.specs.Prelude.{◌≡◌, ℕ, ◌+◌, List, [], ◌∷◌, true, false, Option, Result, Ok, Err}
+use Rattle.std.specs.Prelude.{◌≡◌, ℕ, ◌+◌, List, ◌∷◌, true, false, Result, Ok, Err}
 use Rattle.grid_files.specs.Sets.{Members}
 use Rattle.grid_files.specs.Items.{Open, fits_open}
 use Rattle.grid_files.specs.Reading.{read}
 use Rattle.grid_files.specs.SetFile.{is_open}
 use Rattle.grid_files.specs.Openings.{IsOpening}
-use Rattle.grid_files.specs.Scanning.{left, listed, IsCarry}
+use Rattle.grid_files.specs.Scanning.{left}
 use Rattle.grid_files.specs.Readers.{IsGathered}
 use Rattle.grid_files.specs.declared.fault.Kind.{Kind}
 use Rattle.grid_files.specs.declared.fault.TextCause.TheVariants.{Unclosed}

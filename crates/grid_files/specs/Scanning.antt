@@ -1,5 +1,5 @@
 -- What a scanner has still to tell, by what it carries.
-use Rattle.std.specs.Prelude.{◌≡◌, ◌≤◌, ℕ, ◌+◌, ℤ, List, [], ◌∷◌, ◌++◌, length, drop, Bool, Option, None, Some, nat_eq, if◌then◌else◌}
+use Rattle.std.specs.Prelude.{◌≡◌, ◌≤◌, ℕ, ◌+◌, ℤ, List, [], ◌∷◌, ◌++◌, length, drop, Option, None, Some, nat_eq, if◌then◌else◌}
 use Rattle.std.specs.Cmp.Lexicographic.{pointwise}
 use Rattle.outside.specs.Tokens.{Lexeme, number, wide, arrow, word, mark, other, letters_of, line_of, digits_of, digits_value, number_of, dashed, dashed_size, tokens_behind}
 use Rattle.grid_files.specs.declared.piece.Piece.{Piece}

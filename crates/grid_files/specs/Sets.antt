@@ -5,7 +5,7 @@ use Rattle.std.specs.List.Sorted.{IsStrictlySortedBy}
 use Rattle.elem_cubes.specs.declared.range.TheConstants.{MAX_EMBEDDING}
 use Rattle.elem_cubes.specs.Cells.{Factor, is_file_factor}
 use Rattle.elem_cubes.specs.Order.{cell_cmp}
-use Rattle.grid_files.specs.Sorted.{has, set_of}
+use Rattle.grid_files.specs.Sorted.{has}
 
 -- a set as callers see it: its dimension, 0 where that is unknown, and its members in order
 pub record Members : Type 0 where

@@ -1,14 +1,16 @@
 //! Sets of cells.
-ghost use Rattle.std.specs.Prelude.{◌≡◌, ◌≢◌, ◌<◌, ◌≤◌, ◌+◌, ◌^◌, ◌||◌, ◌&&◌, max, List, [], length, slice_get, vec_len, true, IsTrue, IsOk, IfOk, OnOk, Err, Some, ◌↔◌};
+ghost use Rattle.std.specs.Prelude.{◌≡◌, ◌≢◌, ◌<◌, ◌≤◌, ◌+◌, ◌^◌, ◌||◌, ◌&&◌, max, List, [], length, slice_get, vec_len, true, false, IsTrue, IsOk, IfOk, OnOk, Err, Some, ◌↔◌};
 ghost use Rattle.std.specs.List.{list_all};
 ghost use Rattle.elem_cubes.specs.Cells.{Factor, is_file_factor};
 ghost use Rattle.elem_cubes.specs.Order.{cell_cmp};
 ghost use Rattle.grid_files.specs.Sorted.{set_of, union_of, intersection_of, has};
 ghost use Rattle.grid_files.specs.Sets.{is_member, IsCubeSet, holds, dimensions_agree};
 ghost use Rattle.grid_files.specs.Closures.{cells_of, closure};
+ghost use Rattle.grid_files.specs.Neighbours.{neighbours_of, neighbourhood, are_full, are_in_range};
 
 use crate::change::Change;
 use crate::fault::{CUBES, SetFault};
+use crate::inner::are_inner;
 use crate::sorted::{contains, intersection, sort_distinct, union_of_all};
 use crate::spread::spread;
 use elem_cubes::{Cell, MAX_EMBEDDING};
@@ -170,5 +172,39 @@ impl CubeSet {
         ensures range { result ≢ Err SetFault.Coordinates }
     {
         self.closure_within(alloc, CUBES)
+    }
+
+    /// Whether all members are full cubes.
+    pub fn is_full(&self) -> bool
+        ensures { result ≡ are_full self.now.cells }
+    {
+        self.cells.iter().all(|cell| cell.is_full())
+    }
+
+    /// The set of all full cubes that share a point with a member; all members are full cubes. `Coordinates` comes exactly where one
+    /// of them has an end outside the range of the files, else `TooMany` exactly where they are more than `CUBES`.
+    pub fn neighbourhood(&self, alloc: Global) -> Result<CubeSet, SetFault>
+        requires { IsTrue (are_full self.now.cells) }
+        ensures cells { IfOk result (λ s. s ≡ neighbourhood self.now) }
+        ensures range { OnOk result (IsTrue (are_in_range (neighbours_of self.now.cells))) }
+        ensures few { OnOk result (length (neighbours_of self.now.cells) ≤ CUBES) }
+        ensures coordinates { result ≡ Err SetFault.Coordinates → are_in_range (neighbours_of self.now.cells) ≡ false }
+        ensures many { result ≡ Err SetFault.TooMany → IsTrue (are_in_range (neighbours_of self.now.cells)) × (CUBES < length (neighbours_of self.now.cells)) }
+    {
+        if !are_inner(&self.cells) {
+            return Err(SetFault::Coordinates);
+        }
+        let steps = (Change::Down, Change::Up);
+        let axes = self.dimension as usize;
+        let Ok(found) = spread(alloc, &self.cells, axes, steps, CUBES as usize) else {
+            return Err(SetFault::NoMemory);
+        };
+        match found {
+            Some(cells) => Ok(CubeSet {
+                dimension: self.dimension,
+                cells,
+            }),
+            None => Err(SetFault::TooMany),
+        }
     }
 }

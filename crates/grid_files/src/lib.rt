@@ -7,6 +7,7 @@ mod corner;
 mod cube_set;
 mod fault;
 mod gathered;
+mod inner;
 mod laws;
 mod opening;
 mod piece;
@@ -20,10 +21,12 @@ mod write;
 
 pub use cube_set::{CubeSet, are_members};
 pub use fault::{CUBES, Kind, SetFault, TextCause, TextFault};
-pub use laws::{cells_are_faces, texts_have_one_outcome};
+pub use laws::{cells_are_faces, neighbours_meet, texts_have_one_outcome, written_sets_are_read};
 pub use set_file::read_set;
 pub use write::write_set;
 
+#[cfg(test)]
+mod limit_tests;
 #[cfg(test)]
 mod read_tests;
 #[cfg(test)]

@@ -1,8 +1,11 @@
 //! Sets of cells on small examples.
 ghost use Rattle.std.specs.Prelude.{◌≡◌, IfOk};
 
-use crate::{CubeSet, SetFault, are_members, cells_are_faces, texts_have_one_outcome};
-use elem_cubes::{Cell, Corner, MAX_EMBEDDING};
+use crate::{
+    CubeSet, SetFault, are_members, cells_are_faces, neighbours_meet, texts_have_one_outcome,
+    written_sets_are_read,
+};
+use elem_cubes::{Cell, Corner, HIGH, LOW, MAX_EMBEDDING};
 use std::alloc::Global;
 use std::process::Abort;
 use std::test::Fail;
@@ -122,8 +125,79 @@ fn faces_of_cells_of_any_dimension_stand_in_order(rt: HostRuntime) -> Result<(),
     Ok(())
 }
 
+// The neighbourhood of these full cubes.
+fn around(
+    rt: &impl Abort,
+    alloc: Global,
+    dimension: u8,
+    corners: &[&[i32]],
+) -> Result<Result<CubeSet, SetFault>, Fail> {
+    let set = set_of(rt, alloc, dimension, corners)?;
+    let full = set.is_full();
+    assert!(rt; full);
+    Ok(set.neighbourhood(alloc))
+}
+
+#[test]
+fn neighbours_share_a_point(rt: HostRuntime) -> Result<(), Fail> {
+    let line = around(&rt, rt.alloc(), 1, &[&[0]])?
+        .ok()
+        .ok_or("neighbours")?;
+    assert_eq!(rt; line.dimension(), 1);
+    assert!(rt; line.cells() == [cell(&[-1], 1)?, cell(&[0], 1)?, cell(&[1], 1)?].as_slice());
+    let square = around(&rt, rt.alloc(), 2, &[&[4, 4]])?
+        .ok()
+        .ok_or("neighbours")?;
+    assert_eq!(rt; square.len(), 9);
+    assert!(rt; square.holds(&cell(&[3, 5], 3)?) && square.holds(&cell(&[5, 3], 3)?));
+    assert!(rt; square.holds(&cell(&[3, 3], 3)?) && !square.holds(&cell(&[4, 6], 3)?));
+    let two = around(&rt, rt.alloc(), 2, &[&[0, 0], &[1, 1]])?
+        .ok()
+        .ok_or("neighbours")?;
+    assert_eq!(rt; two.len(), 14);
+    let solid = around(&rt, rt.alloc(), 4, &[&[0, 0, 0, 0]])?
+        .ok()
+        .ok_or("neighbours")?;
+    assert_eq!(rt; solid.len(), 81);
+    assert!(rt; solid.holds(&cell(&[-1, 1, -1, 1], 15)?));
+    Ok(())
+}
+
+#[test]
+fn neighbours_stay_in_range(rt: HostRuntime) -> Result<(), Fail> {
+    for (corner, fits) in [
+        (&[HIGH - 1, 0], false),
+        (&[0, LOW], false),
+        (&[0, HIGH - 1], false),
+        (&[LOW, LOW], false),
+        (&[HIGH - 2, 0], true),
+        (&[LOW + 1, HIGH - 2], true),
+    ] {
+        let found = around(&rt, rt.alloc(), 2, &[&[7, 7], corner])?;
+        if fits {
+            assert_eq!(rt; found.ok().ok_or("neighbours")?.len(), 18);
+        } else {
+            assert!(rt; found.err() == Some(SetFault::Coordinates));
+        }
+    }
+    let none = CubeSet::of_cells(0, Vec::new(rt.alloc()))?;
+    let full = none.is_full();
+    assert!(rt; full);
+    assert!(rt;
+        none.neighbourhood(rt.alloc())
+            .ok()
+            .ok_or("neighbours")?
+            .is_empty()
+    );
+    let set = CubeSet::of_cells(0, Vec::new(rt.alloc()))?;
+    assert_eq!(rt; set.dimension(), 0);
+    Ok(())
+}
+
 #[test]
 fn laws_hold() {
     texts_have_one_outcome();
     cells_are_faces();
+    neighbours_meet();
+    written_sets_are_read();
 }

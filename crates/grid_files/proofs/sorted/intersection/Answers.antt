@@ -1,5 +1,4 @@
-use Rattle.std.proofs.Common.{◌≡◌, ◌∙◌, sym, ap, ◌++◌, ◌≤◌, ◌⊎◌, length, drop, inl, inr, arith}
-use Rattle.grid_files.specs.Sorted.{intersection_of}
+use Rattle.std.proofs.Common.{◌∙◌, sym, ◌≤◌, ◌⊎◌, length, inl, inr, arith}
 use Rattle.grid_files.proofs.Steps.{meet_less, meet_equal, meet_greater, meet_end}
 use Rattle.grid_files.proofs.sorted.intersection.Goals as goal
 use Rattle.grid_files.proofs.sorted.intersection.Goals.{then-merge-test+else-j-right, else-merge-test}

@@ -1,4 +1,4 @@
-use Rattle.std.proofs.Common.{◌≡◌, ◌∙◌, sym, ap, ◌++◌, ◌+◌, ◌≤◌, ◌<◌, ◌⊎◌, length, drop, inl, inr, arith, length-append}
+use Rattle.std.proofs.Common.{◌≡◌, ◌∙◌, sym, ap, ◌++◌, ◌≤◌, ◌<◌, ◌⊎◌, length, drop, inl, inr, arith, length-append}
 use Rattle.grid_files.specs.Sorted.{union_of}
 use Rattle.grid_files.proofs.Steps.{merge_less, merge_equal, merge_greater, longer, rest_is}
 use Rattle.grid_files.proofs.sorted.union.Goals as goal

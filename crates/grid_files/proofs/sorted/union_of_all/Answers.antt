@@ -1,4 +1,3 @@
-use Rattle.std.proofs.Common.{arith}
 use Rattle.grid_files.proofs.Steps.{something, union-most}
 use Rattle.grid_files.proofs.sorted.union_of_all.Goals as goal
 

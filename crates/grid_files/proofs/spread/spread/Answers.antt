@@ -1,5 +1,4 @@
-use Rattle.std.proofs.Common.{◌≡◌, ◌≤◌, ◌+◌, length, arith, ap, sym, ◌∙◌}
-use Rattle.grid_files.specs.Changes.{spread}
+use Rattle.std.proofs.Common.{◌+◌, length, arith, ap, sym, ◌∙◌}
 use Rattle.grid_files.proofs.Spreads.{sorted_spread, fewer_axes, more_axes, spread_next}
 use Rattle.grid_files.proofs.spread.spread.Goals as goal
 

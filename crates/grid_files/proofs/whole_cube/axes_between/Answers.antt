@@ -1,4 +1,4 @@
-use Rattle.std.proofs.Common.{◌≡◌, ◌<◌, ◌-◌, sym, ap, ◌∙◌, arith, length, pos, to_z, of_z, w32, rules, get_or}
+use Rattle.std.proofs.Common.{◌≡◌, ◌-◌, sym, arith, length, pos, to_z, of_z, w32, rules, get_or}
 use Rattle.std.proofs.lemmas.Int.{to_z-of_z}
 use Rattle.grid_files.proofs.WholeCubes.{not_between, between_more, axes_room}
 use Rattle.grid_files.proofs.whole_cube.axes_between.Goals as goal

@@ -1,4 +1,4 @@
-use Rattle.std.proofs.Common.{◌≡◌, ◌<◌, Some, max, length, arith, sym}
+use Rattle.std.proofs.Common.{◌≡◌, ◌<◌, Some, max, length, arith}
 use Rattle.elem_cubes.specs.declared.range.TheConstants.{MAX_EMBEDDING}
 use Rattle.grid_files.proofs.WholeCubes.{long_corner, too_large, uneven_cause, file_corner, between_is}
 use Rattle.grid_files.proofs.whole_cube.cube_between.Goals as goal

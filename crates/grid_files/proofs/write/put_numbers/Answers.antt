@@ -1,4 +1,4 @@
-use Rattle.std.proofs.Common.{◌≡◌, ◌∙◌, ap, ◌++◌, pos, to_z, of_z, w32, rules, get_or}
+use Rattle.std.proofs.Common.{◌≡◌, pos, to_z, of_z, w32, rules, get_or}
 use Rattle.std.proofs.lemmas.Int.{to_z-of_z}
 use Rattle.grid_files.proofs.Writing.{numbers_more}
 use Rattle.grid_files.proofs.write.put_numbers.Goals as goal

@@ -1,4 +1,4 @@
-use Rattle.std.proofs.Common.{◌≡◌, ◌≤◌, ◌<◌, length, arith, ap, ◌∙◌, sym, refl}
+use Rattle.std.proofs.Common.{◌≤◌, length, arith, ap, refl}
 use Rattle.grid_files.specs.Closures.{cells_of}
 use Rattle.grid_files.proofs.Finishing.{same_members}
 use Rattle.grid_files.proofs.Covering.{spread_cells, spread_in_range, closure_is_set}
