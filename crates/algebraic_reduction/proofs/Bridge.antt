@@ -1,13 +1,13 @@
 -- A numbered complex in the words of the theory: its grades, its boundary, and its chains of a degree.
-use Rattle.std.proofs.Common.{◌≡◌, ◌≢◌, ℕ, zero, suc, ◌+◌, ◌*◌, ◌<◌, ◌≤◌, refl, ap, ◌∙◌, arith, ⊎_elim, List, [], ◌∷◌, length, get_or, false, true}
+use Rattle.std.proofs.Common.{◌≡◌, ◌≢◌, ℕ, zero, suc, ◌+◌, ◌*◌, ◌<◌, ◌≤◌, refl, ap, ◌∙◌, arith, ⊎_elim, List, [], ◌∷◌, length, get_or}
 use Rattle.std.proofs.lemmas.Bool.{cases_eq, cases_lt, ltb-false, le-ltb}
 use Rattle.std.proofs.lemmas.List.{get_or_past}
 use Rattle.field_mod.specs.Modular.{Same}
 use Rattle.field_mod.proofs.Sums.{total-same, total-zero}
-use Rattle.field_mod.proofs.Modular.{same_by, same_refl}
+use Rattle.field_mod.proofs.Modular.{same_by}
 use Rattle.chains.specs.Terms.{coefficient}
 use Rattle.chains.specs.Homology.{IsChain}
-use Rattle.chains.specs.ChainComplex.{ChainComplex, incidence, boundary, IsComplex, system}
+use Rattle.chains.specs.ChainComplex.{ChainComplex, incidence, IsComplex, system}
 use Rattle.algebraic_reduction.specs.Reduction.{IsBoundary}
 
 -- two more than the degree of a generator, and 0 where there is none: so no grade of a generator is one more than that of none

@@ -1,16 +1,15 @@
 -- Clearing a column: one boundary, and generator by generator.
-use Rattle.std.proofs.Common.{◌≡◌, ◌≢◌, ℕ, zero, suc, ◌+◌, ◌-◌, ◌*◌, ◌/◌, ◌%◌, ◌^◌, ◌<◌, ◌≤◌, ◌⊎◌, inl, inr, refl, sym, ap, ◌∙◌, arith, ⊎_elim, List, [], ◌∷◌, ◌++◌, length, get_or, set, cond, eqb, eq-eqb, ne_eqb, subst, length-set, get_or-set_same, get_or-set_other, mod-eq_of_lt}
+use Rattle.std.proofs.Common.{◌≡◌, ◌≢◌, ℕ, ◌+◌, ◌-◌, ◌*◌, ◌/◌, ◌%◌, ◌^◌, ◌<◌, ◌≤◌, ◌⊎◌, inl, inr, refl, sym, ap, ◌∙◌, arith, ⊎_elim, List, [], ◌∷◌, ◌++◌, length, get_or, set, cond, eqb, eq-eqb, ne_eqb, subst, get_or-set_same, get_or-set_other, mod-eq_of_lt}
 use native.Mathlib.Nat.{zero-mod}
-use Rattle.std.proofs.lemmas.Bool.{cases_eq, cases_lt}
-use Rattle.std.proofs.lemmas.List.{get_or_default, get_or_past}
+use Rattle.std.proofs.lemmas.Bool.{cases_eq}
+use Rattle.std.proofs.lemmas.List.{get_or_default}
 use Rattle.field_mod.specs.Modular.{Same, NonZero, minus}
 use Rattle.field_mod.proofs.Modular.{same_by, same_refl, same_sym, same_trans, same-add, same-scale, same-mul}
 use Rattle.chains.specs.Terms.{coefficient, IsNormal}
 use Rattle.chains.specs.ChainComplex.{incidence}
 use Rattle.chains.proofs.TermLists.{coefficient-append, coefficient-lt}
-use Rattle.chains.proofs.Dependent.{decide_zero}
+use Rattle.chains.proofs.Dependent.{decide_zero, neg_cancel}
 use Rattle.algebraic_reduction.specs.State.{StandsFrom, Names, NamesStay, AreCovered}
-use Rattle.algebraic_reduction.proofs.Singles.{neg_cancel}
 use Rattle.algebraic_reduction.proofs.Naming.{stands-next, stands-none}
 
 pub number_below : (p n g : ℕ) (ts : List (ℕ × ℕ)) → 2 ≤ p → IsNormal p ts → n ≡ coefficient ts g → n < p

@@ -1,15 +1,14 @@
 -- The projection of a chain, step by step: what stands at an a is moved along its row, and what stands at a b is left there and
 -- dropped at the end.
-use Rattle.std.proofs.Common.{◌≡◌, ◌≢◌, ℕ, zero, suc, ◌+◌, ◌-◌, ◌*◌, ◌<◌, ◌≤◌, refl, sym, ap, ◌∙◌, arith, ⊎_elim, List, [], ◌∷◌, ◌++◌, length, get_or, take, cond, eqb, eq-eqb, ne_eqb, subst}
+use Rattle.std.proofs.Common.{◌≡◌, ◌≢◌, ℕ, zero, suc, ◌+◌, ◌-◌, ◌*◌, ◌<◌, ◌≤◌, refl, sym, ap, ◌∙◌, arith, ⊎_elim, List, [], ◌∷◌, ◌++◌, length, take, cond, eqb, eq-eqb, ne_eqb, subst}
 use Rattle.std.proofs.lemmas.Bool.{cases_eq}
 use Rattle.std.proofs.lemmas.List.{take_more, take_all}
 use Rattle.field_mod.specs.Modular.{Same, minus}
 use Rattle.field_mod.proofs.Modular.{same_by, same_refl, same_sym, same_trans, same-add, same-scale, same-mul}
-use Rattle.chains.specs.Terms.{coefficient}
 use Rattle.algebraic_reduction.specs.Maps.{IsNoB, projected, Descent}
 use Rattle.algebraic_reduction.specs.Reduction.{Step, IsBoundary, IsUnpaired, left_all, project, project_all, AreSteps}
 use Rattle.algebraic_reduction.specs.Laws.{AreApart}
-use Rattle.algebraic_reduction.specs.Kept.{KeptStep, steps_of, IsKept, AreKept, no_step, nth, a_at, b_at, inverse_at, row_at, column_at}
+use Rattle.algebraic_reduction.specs.Kept.{KeptStep, steps_of, AreKept, no_step, nth, a_at, b_at, inverse_at, row_at}
 use Rattle.algebraic_reduction.proofs.Steps.{project-off_all}
 use Rattle.algebraic_reduction.proofs.LeftBasis.{decide_unpaired, off_paired}
 use Rattle.algebraic_reduction.proofs.KeptSteps.{steps_of-append, project_all-append, kept_at, apart_at, no_b-append, no_b_by, no_b_at, unpaired_no_b}

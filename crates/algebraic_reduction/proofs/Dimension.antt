@@ -1,8 +1,8 @@
 -- The number of the generators that are left is the dimension; a generator that is left, as a chain.
-use Rattle.std.proofs.Common.{◌≡◌, ◌≢◌, ℕ, ◌+◌, ◌*◌, ◌≤◌, ◌%◌, ap, ◌∙◌, arith, cond, eqb, ne_eqb, List, [], ◌∷◌, sym}
+use Rattle.std.proofs.Common.{◌≡◌, ◌≢◌, ℕ, ◌+◌, ◌*◌, ◌≤◌, ◌%◌, ap, ◌∙◌, cond, ne_eqb, List, [], ◌∷◌}
 use native.Mathlib.Nat.{zero-mod}
 use Rattle.field_mod.specs.Modular.{Same, NonZero}
-use Rattle.field_mod.proofs.Modular.{same_by, same_sym, same_trans}
+use Rattle.field_mod.proofs.Modular.{same_by, same_trans}
 use Rattle.chains.specs.Terms.{coefficient, IsNormal}
 use Rattle.chains.specs.ChainComplex.{system}
 use Rattle.chains.proofs.Exchange.{one_length}

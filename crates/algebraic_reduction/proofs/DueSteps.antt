@@ -1,6 +1,6 @@
 -- Sets of steps that are due, and the solution of the equations with the last ones first.
-use Rattle.std.proofs.Common.{◌≡◌, ◌≢◌, ℕ, zero, suc, ◌+◌, ◌-◌, ◌*◌, ◌%◌, ◌^◌, ◌<◌, ◌≤◌, ◌⊎◌, ◌↔◌, inl, inr, refl, sym, ap, ◌∙◌, arith, ⊎_elim, List, [], ◌∷◌, length, get_or, take, cond, eqb, eq-eqb, ne_eqb, subst, Option, Some, None, true, false, Bool, true≢false}
-use Rattle.std.specs.Prelude.{IfSome, IfNone, IsSome, IsTrue}
+use Rattle.std.proofs.Common.{◌≡◌, ◌≢◌, ℕ, ◌+◌, ◌-◌, ◌*◌, ◌%◌, ◌^◌, ◌<◌, ◌≤◌, ◌⊎◌, ◌↔◌, inl, inr, refl, sym, ap, ◌∙◌, arith, ⊎_elim, List, [], ◌∷◌, length, get_or, take, cond, eqb, eq-eqb, ne_eqb, subst, Option, Some, None, true, false, Bool, true≢false}
+use Rattle.std.specs.Prelude.{IfSome, IfNone, IsSome}
 use Rattle.std.specs.Ordering.{is_lt}
 use Rattle.std.specs.List.{list_any}
 use Rattle.std.specs.Ordering.{nat_cmp}
@@ -11,20 +11,20 @@ use Rattle.std.proofs.lemmas.Bool.Decides.{nat_tests}
 use Rattle.field_mod.specs.Sums.{total}
 use Rattle.field_mod.specs.Modular.{Same, NonZero, minus}
 use Rattle.field_mod.proofs.Sums.{total_same}
-use Rattle.field_mod.proofs.Modular.{same_by, same_refl, same_sym, same_trans, same-add, same-scale, same-mul}
+use Rattle.field_mod.proofs.Modular.{same_by, same_refl, same_trans, same-add, same-scale, same-mul}
 use Rattle.chains.specs.Terms.{coefficient, product, IsNormal, IsNormalWithin}
 use Rattle.chains.proofs.Boundary.{product-total}
 use Rattle.chains.proofs.Dependent.{decide_zero}
 use Rattle.algebraic_reduction.specs.Kept.{KeptStep, b_at}
-use Rattle.algebraic_reduction.specs.Maps.{Equations, rest_at, IsSettled}
+use Rattle.algebraic_reduction.specs.Maps.{Equations, rest_at}
 use Rattle.algebraic_reduction.proofs.Naming.{coefficient_other}
-use Rattle.algebraic_reduction.proofs.Columns.{negated, reduced}
-use Rattle.algebraic_reduction.proofs.Triangular.{Settling, IsTriangular, settle_one, settled_all}
+use Rattle.algebraic_reduction.proofs.Columns.{negated}
+use Rattle.algebraic_reduction.proofs.Triangular.{Settling, IsTriangular, settle_one}
 
-at_same : (i : ℕ) → is_at (nat_cmp i) i ≡ true
+pub at_same : (i : ℕ) → is_at (nat_cmp i) i ≡ true
 at_same i = grind (arith, nat_tests)
 
-at_other : (i j : ℕ) → i ≢ j → is_at (nat_cmp i) j ≡ false
+pub at_other : (i j : ℕ) → i ≢ j → is_at (nat_cmp i) j ≡ false
 at_other i j f = grind (arith, nat_tests)
 
 not_below : (i j : ℕ) → is_lt (nat_cmp i j) ≡ false → j ≤ i
@@ -83,19 +83,19 @@ product_rest p n v ts ys normal past clean =
 
 -- ---- the turns
 
-pub settling_first : (p n : ℕ) (e : Equations) (y : ℕ → ℕ) (due : ℕ → Bool) → ((j g : ℕ) → j < e.count → g < n → y g ≢ 0 → NonZero p (e.at j g) → due j ≡ true) → ((j : ℕ) → due j ≡ true → j < e.count) → Settling p n e y y due e.count
-settling_first p n e y due added below = record {
+pub settling_first : (p n : ℕ) (e : Equations) (y0 y : ℕ → ℕ) (due : ℕ → Bool) → ((g : ℕ) → Same p (y g) (y0 g)) → ((j g : ℕ) → j < e.count → g < n → y0 g ≢ 0 → NonZero p (e.at j g) → due j ≡ true) → ((j : ℕ) → due j ≡ true → j < e.count) → Settling p n e y0 y due e.count
+settling_first p n e y0 y due same added below = record {
   bounded = omega arith;
-  others = λ g f. same_refl p (y g);
-  ahead = λ i l. same_refl p (y (e.pivot i));
+  others = λ g f. same g;
+  ahead = λ i l. same (e.pivot i);
   settled = λ i l q. absurd (omega arith);
   waiting = λ i g l m d f. ⊎_elim
-      (λ z. same_by p 0 0 _ _ (ap (λ v. e.at i g * v + p * 0) z ∙ omega arith))
+      (λ z. same_trans (same-scale (e.at i g) (same g)) (same_by p 0 0 _ _ (ap (λ v. e.at i g * v + p * 0) z ∙ omega arith)))
       (λ nz. ⊎_elim
       (λ s. same_trans (same-mul s (same_refl p (y g))) (same_by p 0 0 _ _ (omega arith)))
       (λ s. absurd (true≢false (sym (added i g l m nz s) ∙ d)))
       (decide_zero p (e.at i g)))
-      (cases_eq (y g) 0);
+      (cases_eq (y0 g) 0);
   below = below;
 }
 
@@ -108,14 +108,17 @@ pub settling_next : (p n : ℕ) (e : Equations) (y0 y y' : ℕ → ℕ) (due aft
     → ((g : ℕ) → Same p (y' g) (y g + cond (eqb g (e.pivot i)) t 0))
     → ((j : ℕ) → after j ≡ true → due' j ≡ true)
     → ((j : ℕ) → due' j ≡ true → (after j ≡ true) ⊎ (j < i))
-    → ((j : ℕ) → j < i → NonZero p (e.at j (e.pivot i)) → due' j ≡ true)
+    → ((j : ℕ) → j < i → y' (e.pivot i) ≢ 0 → NonZero p (e.at j (e.pivot i)) → due' j ≡ true)
     → Settling p n e y0 y' due' i
 settling_next p n e y0 y y' due after due' bound i t tri s here was lower et ey grows inside added =
     settle_one p n e tri y0 y y' due after due' bound i t s (s.below i here) was lower et ey grows
     (λ j d. ⊎_elim (λ a. lower j a) (λ l. l) (inside j d))
     (λ j l d. ⊎_elim
     (λ z. same_trans (same-mul z (same_refl p (y' (e.pivot i)))) (same_by p 0 0 _ _ (omega arith)))
-    (λ nz. absurd (true≢false (sym (added j l nz) ∙ d)))
+    (λ nz. ⊎_elim
+    (λ zero. same_by p 0 0 _ _ (ap (λ v. e.at j (e.pivot i) * v + p * 0) zero ∙ omega arith))
+    (λ ne. absurd (true≢false (sym (added j l ne nz) ∙ d)))
+    (cases_eq (y' (e.pivot i)) 0))
     (decide_zero p (e.at j (e.pivot i))))
 
 -- ---- the generators of a list, one by one
@@ -160,14 +163,13 @@ making_all_next p n e ts count k first due due' m l kept added below = record {
 }
 
 -- the value at a pivot that is changed
-pub settled_value : (p inverse pivot value x change : ℕ) (eq old one new : List (ℕ × ℕ)) → 1 ≤ p → value ≡ product eq old % p → x ≡ (inverse * value) % p → change ≡ (p - x) % p → ((g : ℕ) → coefficient one g ≡ coefficient ((pivot, change) ∷ []) g % p) → ((g : ℕ) → coefficient new g ≡ (coefficient old g + 1 * coefficient one g) % p) → (g : ℕ) → Same p (coefficient new g) (coefficient old g + cond (eqb g pivot) (minus p (inverse * product eq old)) 0)
-settled_value p inverse pivot value x change eq old one new pos ev ex es eo en g =
-    let v : Same p value (product eq old) = reduced p _ _ ev in
+pub settled_value : (p inverse pivot value x change : ℕ) (eq old new : List (ℕ × ℕ)) → 1 ≤ p → Same p value (product eq old) → x ≡ (inverse * value) % p → change ≡ (p - x) % p → ((g : ℕ) → Same p (coefficient new g) (coefficient old g + cond (eqb g pivot) change 0)) → (g : ℕ) → Same p (coefficient new g) (coefficient old g + cond (eqb g pivot) (minus p (inverse * product eq old)) 0)
+settled_value p inverse pivot value x change eq old new pos v ex es en g =
     let c : Same p change (minus p (inverse * product eq old)) = same_trans (negated p (inverse * value) change pos (es ∙ ap (λ u. (p - u) % p) ex)) (same-scale (p - 1) (same-scale inverse v)) in
-    same_trans (reduced p _ _ (en g)) (same-add (same_refl p (coefficient old g)) (same_trans (same_by p 0 0 _ (coefficient one g) (omega arith)) (same_trans (reduced p _ _ (eo g)) (⊎_elim
-    (λ e. rw (eq-eqb g pivot e) (rw (eq-eqb pivot g (sym e)) (same_trans (same_by p 0 0 _ change (omega arith)) c)))
-    (λ f. rw (ne_eqb g pivot f) (rw (ne_eqb pivot g (λ e. f (sym e))) (same_by p 0 0 _ _ (omega arith))))
-    (cases_eq g pivot)))))
+    same_trans (en g) (same-add (same_refl p (coefficient old g)) (⊎_elim
+    (λ e. rw (eq-eqb g pivot e) c)
+    (λ f. rw (ne_eqb g pivot f) (same_refl p 0))
+    (cases_eq g pivot)))
 
 -- the empty set has nothing
 pub empty_has : (s : BTreeSet ℕ) (j : ℕ) → IsEmpty s → contains nat_cmp s j ≡ true → ⊥

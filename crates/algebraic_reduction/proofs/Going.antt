@@ -4,11 +4,11 @@ use Rattle.std.proofs.lemmas.Bool.{cases_eq, cases_lt}
 use Rattle.std.proofs.lemmas.List.{get_or_past}
 use Rattle.field_mod.specs.Modular.{Same, NonZero, minus}
 use Rattle.field_mod.proofs.Modular.{same_by, same_refl, same_sym, same_trans, same-add, same-scale, same-mul}
-use Rattle.chains.specs.Terms.{coefficient, IsNormal}
-use Rattle.chains.specs.ChainComplex.{ChainComplex, IsComplex, incidence}
-use Rattle.algebraic_reduction.specs.Reduction.{Step, IsUnpaired, left, left_all}
+use Rattle.chains.specs.Terms.{coefficient}
+use Rattle.chains.specs.ChainComplex.{ChainComplex, incidence}
+use Rattle.algebraic_reduction.specs.Reduction.{Step, IsUnpaired, left}
 use Rattle.algebraic_reduction.specs.Laws.{left_of, NothingLeft}
-use Rattle.algebraic_reduction.specs.LogWords.{IsOneMore, AreFurther}
+use Rattle.algebraic_reduction.specs.LogWords.{IsOneMore}
 use Rattle.algebraic_reduction.specs.Kept.{KeptStep, steps_of}
 use Rattle.algebraic_reduction.specs.State.{IsState, GoesOn}
 use Rattle.algebraic_reduction.proofs.Bridge.{grade, grade_in, grade_past, is_boundary}

@@ -1,15 +1,13 @@
 -- Rows and columns of kept steps: one more step, and the steps by their places.
-use Rattle.std.proofs.Common.{◌≡◌, ◌≢◌, ℕ, zero, suc, ◌+◌, ◌-◌, ◌*◌, ◌<◌, ◌≤◌, ◌⊎◌, inl, inr, refl, sym, ap, ◌∙◌, arith, ⊎_elim, List, [], ◌∷◌, ◌++◌, length, get_or, take, subst}
-use Rattle.std.proofs.lemmas.Bool.{cases_eq}
+use Rattle.std.proofs.Common.{◌≡◌, ◌≢◌, ℕ, zero, suc, ◌<◌, ◌≤◌, refl, ap, arith, List, [], ◌∷◌, ◌++◌, length, take}
 use Rattle.field_mod.specs.Modular.{Same}
-use Rattle.field_mod.proofs.Modular.{same_refl, same_sym, same_trans}
-use Rattle.chains.specs.Terms.{coefficient}
+use Rattle.field_mod.proofs.Modular.{same_trans}
 use Rattle.algebraic_reduction.specs.Maps.{IsNoB}
 use Rattle.algebraic_reduction.specs.Reduction.{Step, IsBoundary, IsStep, IsUnpaired, left, left_all, project, project_all, AreSteps}
 use Rattle.std.specs.Prelude.{slice_get, Some}
 use Rattle.algebraic_reduction.specs.Laws.{AreApart}
 use Rattle.algebraic_reduction.specs.LogWords.{pairs}
-use Rattle.algebraic_reduction.specs.Kept.{KeptStep, steps_of, IsKept, AreKept, no_step, nth, a_at, b_at, inverse_at, row_at, column_at}
+use Rattle.algebraic_reduction.specs.Kept.{KeptStep, steps_of, IsKept, AreKept, nth, a_at, b_at, row_at, column_at}
 use Rattle.algebraic_reduction.proofs.Steps.{IsDead, dead_left, pair-dead_a, pair-dead_b, step_one}
 
 -- ---- one more step

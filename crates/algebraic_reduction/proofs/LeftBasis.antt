@@ -11,7 +11,7 @@ use Rattle.chains.specs.ChainComplex.{ChainComplex, incidence, boundary, IsCompl
 use Rattle.algebraic_reduction.specs.Laws.{include_of, LeftGeneratorsAreBasis}
 use Rattle.algebraic_reduction.proofs.Bridge.{grade, grade_in, grade_past, grade_inside, is_boundary, to_grade, of_grade}
 use Rattle.algebraic_reduction.proofs.Linear.{homotopy-degree}
-use Rattle.algebraic_reduction.proofs.Singles.{total-single}
+use Rattle.chains.proofs.Boundary.{total-single}
 use Rattle.algebraic_reduction.proofs.Steps.{exact, log_identity, log_round_trip, log_include-boundary, log_project-boundary, log_combination, homotopy_all-none, project_all-same, include_all-same, project-off_all, project-degree, include-degree}
 
 pub decide_unpaired : (ss : List Step) (g : ℕ) → IsUnpaired ss g ⊎ ((IsUnpaired ss g) → ⊥)

@@ -1,4 +1,3 @@
-pub mod Singles
 pub mod OneStep
 pub mod Steps
 pub mod Bridge
@@ -18,3 +17,5 @@ pub mod DueSteps
 pub mod MapResults
 pub mod Going
 pub mod Dimension
+pub mod NumbersKept
+pub mod Spreading

@@ -1,16 +1,15 @@
 -- Projection, inclusion and homotopy are linear, the homotopy raises degrees by one, and what is left is a complex on the
 -- generators in no step.
-use Rattle.std.proofs.Common.{◌≡◌, ◌≢◌, ℕ, ◌+◌, ◌-◌, ◌*◌, ◌≤◌, ◌⊎◌, inl, inr, refl, sym, ap, ◌∙◌, arith, ⊎_elim, true, false, cond, eqb, eq-eqb, ne_eqb, List, [], ◌∷◌, subst}
+use Rattle.std.proofs.Common.{◌≡◌, ◌≢◌, ℕ, ◌+◌, ◌*◌, ◌≤◌, refl, sym, ap, arith, ⊎_elim, true, false, cond, eqb, eq-eqb, List, [], ◌∷◌, subst}
 use Rattle.std.proofs.lemmas.Bool.{cases_eq}
-use Rattle.field_mod.specs.Sums.{total}
 use Rattle.field_mod.specs.Modular.{Same, minus}
 use Rattle.field_mod.proofs.Sums.{total-same, total-add, total-scale}
-use Rattle.field_mod.proofs.Modular.{same_by, same_refl, same_sym, same_trans, same-add, same-scale}
-use Rattle.algebraic_reduction.specs.Reduction.{boundary_by, Step, project, include, homotopy, left, IsBoundary, IsStep, IsUnpaired, AreSteps, left_all, project_all, include_all, homotopy_all}
+use Rattle.field_mod.proofs.Modular.{same_by, same_refl, same_trans, same-add, same-scale}
+use Rattle.algebraic_reduction.specs.Reduction.{boundary_by, Step, project, include, homotopy, left, IsBoundary, IsUnpaired, AreSteps, left_all, project_all, include_all, homotopy_all}
 use Rattle.algebraic_reduction.specs.Laws.{AreApart, IsLinear}
-use Rattle.algebraic_reduction.proofs.OneStep.{project-same, include-same, homotopy-same, degrees}
-use Rattle.algebraic_reduction.proofs.Steps.{IsDead, step_apart, dead_left, pair-dead_a, pair-dead_b, step_one, exact, project_all-same, include_all-same, homotopy_all-same, include-degree, project-degree}
-use Rattle.algebraic_reduction.proofs.Singles.{eqb_cases}
+use Rattle.algebraic_reduction.proofs.OneStep.{include-same, degrees}
+use Rattle.algebraic_reduction.proofs.Steps.{IsDead, step_apart, dead_left, pair-dead_a, pair-dead_b, step_one, exact, project_all-same, homotopy_all-same, include-degree, project-degree}
+use Rattle.chains.proofs.TermLists.{eqb_cases}
 
 -- ---- one step, exactly
 
@@ -51,20 +50,20 @@ module _ (p n : ℕ) (degree : ℕ → ℕ) (two : 2 ≤ p) where
   pub include_all-linear : (D : ℕ → ℕ → ℕ) (ss : List Step) → IsBoundary p n degree D → AreSteps p n D ss → IsLinear p (include_all p n D ss)
   include_all-linear D [] bd l u v x y g = same_refl p _
   include_all-linear D (s ∷ ss) bd l u v x y g =
-      let D1 = left p D s in
-      let i = include_all-linear D1 ss (step_one p n degree two bd l.0) l.1 u v x y in
-      same_trans (include-same p n degree D s two bd l.0 _ (λ h. u * include_all p n D1 ss x h + v * include_all p n D1 ss y h) i g)
-      (exact p n degree two (include-linear p n D s u v (include_all p n D1 ss x) (include_all p n D1 ss y) g))
+      let after = left p D s in
+      let i = include_all-linear after ss (step_one p n degree two bd l.0) l.1 u v x y in
+      same_trans (include-same p n degree D s two bd l.0 _ (λ h. u * include_all p n after ss x h + v * include_all p n after ss y h) i g)
+      (exact p n degree two (include-linear p n D s u v (include_all p n after ss x) (include_all p n after ss y) g))
 
   pub homotopy_all-linear : (D : ℕ → ℕ → ℕ) (ss : List Step) → IsBoundary p n degree D → AreSteps p n D ss → IsLinear p (homotopy_all p n D ss)
   homotopy_all-linear D [] bd l u v x y g = same_by p 0 0 _ _ (omega arith)
   homotopy_all-linear D (s ∷ ss) bd l u v x y g =
-      let D1 = left p D s in
+      let after = left p D s in
       let bd1 = step_one p n degree two bd l.0 in
-      let hx = homotopy_all p n D1 ss (project p D s x) in
-      let hy = homotopy_all p n D1 ss (project p D s y) in
-      let a : (h : ℕ) → Same p (homotopy_all p n D1 ss (project p D s (λ h. u * x h + v * y h)) h) (u * hx h + v * hy h) = λ h.
-      same_trans (homotopy_all-same p n degree two D1 ss bd1 l.1 _ _ (λ k. exact p n degree two (project-linear p D s u v x y k)) h) (homotopy_all-linear D1 ss bd1 l.1 u v (project p D s x) (project p D s y) h) in
+      let hx = homotopy_all p n after ss (project p D s x) in
+      let hy = homotopy_all p n after ss (project p D s y) in
+      let a : (h : ℕ) → Same p (homotopy_all p n after ss (project p D s (λ h. u * x h + v * y h)) h) (u * hx h + v * hy h) = λ h.
+      same_trans (homotopy_all-same p n degree two after ss bd1 l.1 _ _ (λ k. exact p n degree two (project-linear p D s u v x y k)) h) (homotopy_all-linear after ss bd1 l.1 u v (project p D s x) (project p D s y) h) in
       let b = include-same p n degree D s two bd l.0 _ (λ h. u * hx h + v * hy h) a g in
       let c = include-linear p n D s u v hx hy g in
       let d = homotopy-linear s u v x y g in
@@ -74,10 +73,10 @@ module _ (p n : ℕ) (degree : ℕ → ℕ) (two : 2 ≤ p) where
   pub homotopy-degree : (D : ℕ → ℕ → ℕ) (ss : List Step) → IsBoundary p n degree D → AreSteps p n D ss → (k : ℕ) (x : ℕ → ℕ) → ((g : ℕ) → degree g ≢ k → Same p (x g) 0) → (g : ℕ) → degree g ≢ k + 1 → Same p (homotopy_all p n D ss x g) 0
   homotopy-degree D [] bd l k x h g f = same_refl p 0
   homotopy-degree D (s ∷ ss) bd l k x h g f =
-      let D1 = left p D s in
+      let after = left p D s in
       let d = degrees p n degree D s two bd l.0 in
-      let r = homotopy-degree D1 ss (step_one p n degree two bd l.0) l.1 k (project p D s x) (project-degree p n degree two D (s ∷ []) bd (l.0, tt) k x h) in
-      let i = include-degree p n degree two D (s ∷ []) bd (l.0, tt) (k + 1) (homotopy_all p n D1 ss (project p D s x)) r g f in
+      let r = homotopy-degree after ss (step_one p n degree two bd l.0) l.1 k (project p D s x) (project-degree p n degree two D (s ∷ []) bd (l.0, tt) k x h) in
+      let i = include-degree p n degree two D (s ∷ []) bd (l.0, tt) (k + 1) (homotopy_all p n after ss (project p D s x)) r g f in
       let first : Same p (homotopy s x g) 0 = ⊎_elim
       (λ e. let q : degree g ≡ degree s.b = ap degree e in let none : degree s.a ≢ k = omega arith in rw (eq-eqb g s.b e) (same_trans (same-scale s.inverse (h s.a none)) (same_by p 0 0 _ _ (omega arith))))
       (λ w. rw w (same_refl p 0))
@@ -106,12 +105,12 @@ module _ (p n : ℕ) (degree : ℕ → ℕ) (two : 2 ≤ p) where
   pub paired_dead : (D : ℕ → ℕ → ℕ) (ss : List Step) (v : ℕ) → IsBoundary p n degree D → AreSteps p n D ss → (IsUnpaired ss v → ⊥) → IsDead p (left_all p D ss) v
   paired_dead D [] v bd l w = absurd (w tt)
   paired_dead D (s ∷ ss) v bd l w =
-      let D1 = left p D s in
+      let after = left p D s in
       ⊎_elim
-      (λ e. subst (λ (k : ℕ). IsDead p (left_all p D1 ss) k) (sym e) (dead_left_all D1 ss s.a (pair-dead_a p n degree two D s bd l.0)))
+      (λ e. subst (λ (k : ℕ). IsDead p (left_all p after ss) k) (sym e) (dead_left_all after ss s.a (pair-dead_a p n degree two D s bd l.0)))
       (λ f. ⊎_elim
-      (λ e. subst (λ (k : ℕ). IsDead p (left_all p D1 ss) k) (sym e) (dead_left_all D1 ss s.b (pair-dead_b p n degree two D s bd l.0)))
-      (λ h. paired_dead D1 ss v (step_one p n degree two bd l.0) l.1 (λ u. w (f, h, u)))
+      (λ e. subst (λ (k : ℕ). IsDead p (left_all p after ss) k) (sym e) (dead_left_all after ss s.b (pair-dead_b p n degree two D s bd l.0)))
+      (λ h. paired_dead after ss v (step_one p n degree two bd l.0) l.1 (λ u. w (f, h, u)))
       (cases_eq v s.b))
       (cases_eq v s.a)
 

@@ -1,18 +1,19 @@
 -- Inclusion, homotopy and transposed projection of a log, as the values that keep the equations of its steps.
-use Rattle.std.proofs.Common.{◌≡◌, ◌≢◌, ℕ, zero, suc, ◌+◌, ◌-◌, ◌*◌, ◌%◌, ◌<◌, ◌≤◌, ◌⊎◌, inl, inr, refl, sym, ap, ◌∙◌, arith, ⊎_elim, List, [], ◌∷◌, length, get_or, cond, eqb, subst, Option, Some, None, true, false, Bool}
+use Rattle.std.proofs.Common.{◌≡◌, ◌≢◌, ℕ, suc, ◌+◌, ◌-◌, ◌*◌, ◌%◌, ◌<◌, ◌≤◌, ◌⊎◌, inl, inr, refl, sym, ap, ◌∙◌, arith, ⊎_elim, List, [], ◌∷◌, length, cond, eqb, subst, Option, Some, None, true, Bool}
 use Rattle.std.proofs.lemmas.Bool.{cases_eq, cases_lt}
+use Rattle.std.proofs.lemmas.List.{get_or_past}
 use Rattle.field_mod.specs.Sums.{total}
 use Rattle.field_mod.specs.Modular.{Same, NonZero, minus}
 use Rattle.field_mod.proofs.Sums.{total-same}
-use Rattle.field_mod.proofs.Modular.{same_by, same_refl, same_sym, same_trans, same-add, same-scale, same-mul}
+use Rattle.field_mod.proofs.Modular.{same_by, same_sym, same_trans, same-scale}
 use Rattle.chains.specs.Terms.{coefficient, product, IsNormal}
-use Rattle.chains.specs.ChainComplex.{ChainComplex, IsComplex, incidence}
+use Rattle.chains.specs.ChainComplex.{ChainComplex, incidence}
 use Rattle.algebraic_reduction.specs.declared.side.Side.{Side}
 use Rattle.algebraic_reduction.specs.declared.side.Side.TheVariants.{Columns, Rows}
-use Rattle.algebraic_reduction.specs.Reduction.{Step, IsBoundary, IsUnpaired, IsOnLeft, AreSteps, project_all, single}
+use Rattle.algebraic_reduction.specs.Reduction.{IsBoundary, IsOnLeft, single}
 use Rattle.algebraic_reduction.specs.Laws.{AreApart, project_of, include_of, homotopy_of}
-use Rattle.algebraic_reduction.specs.Kept.{KeptStep, steps_of, a_at, b_at, inverse_at, row_at, column_at, nth, AreKept}
-use Rattle.algebraic_reduction.specs.Maps.{IsNoB, Descent, Equations, rest_at, IsSettled}
+use Rattle.algebraic_reduction.specs.Kept.{KeptStep, steps_of, a_at, b_at, row_at, column_at, nth}
+use Rattle.algebraic_reduction.specs.Maps.{Descent, Equations, rest_at, IsSettled}
 use Rattle.algebraic_reduction.specs.Sides.{equations, pivot_in, equation_in}
 use Rattle.algebraic_reduction.specs.State.{place_at, IsState}
 use Rattle.algebraic_reduction.proofs.Bridge.{grade, grade_in, grade_past, is_boundary}
@@ -51,14 +52,14 @@ turn_by : (p n i pv inv bound : ℕ) (e : Equations) (eq values values' : List (
     → ((g : ℕ) → Same p (coefficient values' g) (coefficient values g + cond (eqb g pv) (minus p (inv * product eq values)) 0))
     → ((j : ℕ) → after j ≡ true → due' j ≡ true)
     → ((j : ℕ) → due' j ≡ true → (after j ≡ true) ⊎ (j < i))
-    → ((j : ℕ) → j < i → NonZero p (e.at j pv) → due' j ≡ true)
+    → ((j : ℕ) → j < i → coefficient values' pv ≢ 0 → NonZero p (e.at j pv) → due' j ≡ true)
     → Settling p n e y0 (coefficient values') due' i
 turn_by p n i pv inv bound e eq values values' y0 due after due' two tri epv einv eat normal past clean s here was lower ev grows inside added =
     settling_next p n e y0 (coefficient values) (coefficient values') due after due' bound i (minus p (inv * product eq values)) tri s here was lower
     (same-scale (p - 1) (same_trans (same-scale inv rest) (same_by p 0 0 _ _ (ap (λ v. v * rest_at n e (coefficient values) i + p * 0) (sym einv)))))
     (λ g. subst (λ (v : ℕ). Same p (coefficient values' g) (coefficient values g + cond (eqb g v) (minus p (inv * product eq values)) 0)) (sym epv) (ev g))
     grows inside
-    (λ j l nz. added j l (subst (λ (v : ℕ). NonZero p (e.at j v)) epv nz))
+    (λ j l ne nz. added j l (subst (λ (v : ℕ). coefficient values' v ≢ 0) epv ne) (subst (λ (v : ℕ). NonZero p (e.at j v)) epv nz))
   where
     value : Same p (coefficient values pv) (y0 pv)
     value = subst (λ (v : ℕ). Same p (coefficient values v) (y0 v)) epv (s.ahead i (s.below i here))
@@ -112,7 +113,7 @@ module _ (p : ℕ) (two : 2 ≤ p) (K : ChainComplex) (bs : List (List (ℕ × �
       → ((g : ℕ) → Same p (coefficient values' g) (coefficient values g + cond (eqb g (pivot_in side (nth ks i))) (minus p ((nth ks i).step.inverse * product (equation_in side (nth ks i)) values)) 0))
       → ((j : ℕ) → after j ≡ true → due' j ≡ true)
       → ((j : ℕ) → due' j ≡ true → (after j ≡ true) ⊎ (j < i))
-      → ((j : ℕ) → j < i → pivot_in side (nth ks i) < n → NonZero p ((equations side ks).at j (pivot_in side (nth ks i))) → due' j ≡ true)
+      → ((j : ℕ) → j < i → pivot_in side (nth ks i) < n → coefficient values' (pivot_in side (nth ks i)) ≢ 0 → NonZero p ((equations side ks).at j (pivot_in side (nth ks i))) → due' j ≡ true)
       → Settling p n (equations side ks) y0 (coefficient values') due' i
   settle_turn side i bound values values' y0 due after due' normal clean s here was lower ev grows inside added =
       let l : i < length ks = omega (arith, s.below i here, s.bounded, count_is side ks) in
@@ -120,7 +121,7 @@ module _ (p : ℕ) (two : 2 ≤ p) (K : ChainComplex) (bs : List (List (ℕ × �
       let e = equations side ks in
       turn_by p n i (pivot_in side (nth ks i)) (nth ks i).step.inverse bound e (equation_in side (nth ks i)) values values' y0 due after due' two (triangular side) (pivot_is side ks i) (inverse_is side ks i) (at_is side ks i) normal (λ g q. at_past side i g l q)
       (subst (λ (v : ℕ). Same p (coefficient (equation_in side (nth ks i)) v * y0 v) 0) (pivot_is side ks i) (same_trans (same_by p 0 0 _ _ (ap (λ v. v * y0 (e.pivot i) + p * 0) (sym (at_is side ks i (e.pivot i))))) (clean i l)))
-      s here was lower ev grows inside (λ j q nz. added j q (pivot_in_range side i l) nz)
+      s here was lower ev grows inside (λ j q ne nz. added j q (pivot_in_range side i l) ne nz)
     where
       pivot_in_range : (side : Side) (i : ℕ) → i < length ks → pivot_in side (nth ks i) < n
       pivot_in_range Columns i l = let s = step_at p n d two D ks i state.steps l in s.b_in
@@ -133,8 +134,8 @@ module _ (p : ℕ) (two : 2 ≤ p) (K : ChainComplex) (bs : List (List (ℕ × �
   pub include_result : (start values : List (ℕ × ℕ)) → IsOnLeft p (steps_of ks) (coefficient start) → ((g : ℕ) → ((i : ℕ) → i < length ks → g ≢ b_at ks i) → Same p (coefficient values g) (coefficient start g)) → ((i : ℕ) → i < length ks → IsSettled p n (equations Columns ks) (coefficient start) (coefficient values) i) → (g : ℕ) → Same p (coefficient values g) (include_of p K (steps_of ks) (coefficient start) g)
   include_result start values off others settled g = same_sym (include_settled p n d two D ks bd state.steps state.kept apart (coefficient start) (coefficient values) off (λ h u. others h (λ i l. no_b_at ks h u i l)) settled g)
 
-  pub homotopy_result : (start chain raised values : List (ℕ × ℕ)) → Descent p D ks (coefficient start) (coefficient chain) (coefficient raised) (length ks) → ((g : ℕ) → ((i : ℕ) → i < length ks → g ≢ b_at ks i) → Same p (coefficient values g) (coefficient raised g)) → ((i : ℕ) → i < length ks → IsSettled p n (equations Columns ks) (coefficient raised) (coefficient values) i) → (g : ℕ) → Same p (coefficient values g) (homotopy_of p K (steps_of ks) (coefficient start) g)
-  homotopy_result start chain raised values dd others settled g = same_sym (homotopy_settled p n d two D ks bd state.steps state.kept apart (coefficient start) (coefficient raised) (coefficient values) dd.off dd.weights (λ h u. others h (λ i l. no_b_at ks h u i l)) settled g)
+  pub homotopy_result : (start begin values : List (ℕ × ℕ)) (chain : ℕ → ℕ) → Descent p D ks (coefficient start) chain (coefficient begin) (length ks) → ((g : ℕ) → ((i : ℕ) → i < length ks → g ≢ b_at ks i) → Same p (coefficient values g) (coefficient begin g)) → ((i : ℕ) → i < length ks → IsSettled p n (equations Columns ks) (coefficient begin) (coefficient values) i) → (g : ℕ) → Same p (coefficient values g) (homotopy_of p K (steps_of ks) (coefficient start) g)
+  homotopy_result start begin values chain dd others settled g = same_sym (homotopy_settled p n d two D ks bd state.steps state.kept apart (coefficient start) (coefficient begin) (coefficient values) dd.off dd.weights (λ h u. others h (λ i l. no_b_at ks h u i l)) settled g)
 
   -- a chain without terms at the generators of steps is one of what is left
   on_left_by : (ls : List KeptStep) (y : ℕ → ℕ) → ((i : ℕ) → i < length ls → Same p (y (a_at ls i)) 0 × Same p (y (b_at ls i)) 0) → IsOnLeft p (steps_of ls) y
@@ -162,3 +163,7 @@ module _ (p : ℕ) (two : 2 ≤ p) (K : ChainComplex) (bs : List (List (ℕ × �
       (λ h u. same_trans (others h (λ i q. (unpaired_at ks h u i q).0)) (⊎_elim (λ e. reduced p _ _ (left h e)) (λ s. absurd ((state.in_step h s.0 s.1).1 u)) (place_cases h)))
       (λ i q. same_trans (others (b_at ks i) (λ j m. b_no_a i j q m)) (placed_none start none i q).1)
       settled g l
+
+  -- past the generators
+  pub transposed_past : (c start values : List (ℕ × ℕ)) → ((g : ℕ) → place_at places g ≡ None → coefficient start g ≡ coefficient c g % p) → ((g : ℕ) → ((i : ℕ) → i < length ks → g ≢ a_at ks i) → Same p (coefficient values g) (coefficient start g)) → (g : ℕ) → n ≤ g → Same p (coefficient values g) (coefficient c g)
+  transposed_past c start values left others g l = same_trans (others g (λ i q e. let s = step_at p n d two D ks i state.steps q in let w = s.a_in in absurd (omega arith))) (reduced p _ _ (left g (get_or_past places g None (omega (arith, state.places_count)))))

@@ -2,25 +2,25 @@
 use Rattle.std.proofs.Common.{◌≡◌, ◌≢◌, ℕ, zero, suc, ◌+◌, ◌-◌, ◌*◌, ◌%◌, ◌^◌, ◌<◌, ◌≤◌, ◌⊎◌, inl, inr, refl, sym, ap, ◌∙◌, arith, ⊎_elim, List, [], ◌∷◌, ◌++◌, length, get_or, set, take, mod-eq_of_lt, cond, eqb, eq-eqb, ne_eqb, eqb-true, true, false, Bool, ◌||◌, true≢false, subst, length-append, length-set, get_or-set_same, get_or-set_other, Option, Some, None}
 use Rattle.std.specs.List.{list_any}
 use Rattle.std.proofs.lemmas.Bool.{cases_eq, cases_lt}
-use Rattle.std.proofs.lemmas.List.{get_or_append_left, get_or_default, get_or_past}
+use Rattle.std.proofs.lemmas.List.{get_or_append_left}
 use Rattle.std.proofs.lemmas.Map.Keys.{IsDistinct-from_apart}
 use Rattle.std.proofs.lemmas.Map.Steps.{length-le_from_distinct_below}
 use Rattle.std.proofs.Math.Seq.{get_or-append_seam, take-append_seam}
 use Rattle.field_mod.specs.Modular.{Same, NonZero, minus}
 use Rattle.field_mod.proofs.Modular.{same_by, same_refl, same_sym, same_trans, same-add, same-scale, same-mul}
 use Rattle.chains.specs.Terms.{coefficient}
-use Rattle.chains.specs.ChainComplex.{ChainComplex, IsComplex, incidence}
-use Rattle.algebraic_reduction.specs.Reduction.{Step, IsStep, IsUnpaired, AreSteps, left, left_all, IsBoundary}
-use Rattle.algebraic_reduction.specs.Laws.{AreApart, left_of, AreStepsOf}
-use Rattle.algebraic_reduction.specs.Kept.{KeptStep, steps_of, IsKept, AreKept, no_step, nth, a_at, b_at, inverse_at, row_at, column_at}
+use Rattle.chains.specs.ChainComplex.{ChainComplex, incidence}
+use Rattle.algebraic_reduction.specs.Reduction.{Step, IsStep, IsUnpaired, AreSteps, left}
+use Rattle.algebraic_reduction.specs.Laws.{left_of, AreStepsOf}
+use Rattle.algebraic_reduction.specs.Kept.{KeptStep, steps_of, IsKept, no_step, nth, a_at, b_at}
 use Rattle.algebraic_reduction.specs.LogWords.{IsOneMore}
-use Rattle.algebraic_reduction.specs.State.{StandsFrom, Names, NamesStay, AreCovered, place_at, IsState}
-use Rattle.algebraic_reduction.proofs.Singles.{neg_cancel, eqb_cases}
+use Rattle.algebraic_reduction.specs.State.{Names, NamesStay, AreCovered, place_at, IsState}
+use Rattle.chains.proofs.Dependent.{neg_cancel}
 use Rattle.algebraic_reduction.proofs.Columns.{incidence_set_same, incidence_set_other, reduced}
 use native.Mathlib.Nat.{zero-mod}
 use Rattle.algebraic_reduction.proofs.Bridge.{grade, is_boundary}
-use Rattle.algebraic_reduction.proofs.Linear.{steps_apart, left_all_is_boundary}
-use Rattle.algebraic_reduction.proofs.KeptSteps.{steps_of-append, left_all-append, AreSteps-append, AreKept-append, IsUnpaired-append, unpaired_at, unpaired_by, apart_at, step_at}
+use Rattle.algebraic_reduction.proofs.Linear.{left_all_is_boundary}
+use Rattle.algebraic_reduction.proofs.KeptSteps.{steps_of-append, left_all-append, AreSteps-append, AreKept-append, IsUnpaired-append, unpaired_at}
 
 -- ---- the boundaries after clearing both columns
 

@@ -1,12 +1,17 @@
 -- One step of reduction: its projection, inclusion and homotopy, and what it leaves.
-use Rattle.std.proofs.Common.{◌≡◌, ◌≢◌, ℕ, zero, suc, ◌+◌, ◌-◌, ◌*◌, ◌<◌, ◌≤◌, ◌⊎◌, inl, inr, refl, sym, ap, ◌∙◌, arith, ⊎_elim, true, false, cond, eqb, eqb-true, eq-eqb, ne_eqb, subst}
+use Rattle.std.proofs.Common.{◌≡◌, ◌≢◌, ℕ, zero, suc, ◌+◌, ◌-◌, ◌*◌, ◌<◌, ◌≤◌, ◌⊎◌, inl, inr, refl, sym, ap, ◌∙◌, arith, ⊎_elim, true, false, cond, eqb, eqb-true, eq-eqb, ne_eqb, subst, true≢false}
 use Rattle.std.proofs.lemmas.Bool.{cases_eq}
 use Rattle.field_mod.specs.Sums.{total}
 use Rattle.field_mod.specs.Modular.{Same, minus}
 use Rattle.field_mod.proofs.Sums.{total-same, total-zero, total-add, total-scale, total-swap, total_same}
 use Rattle.field_mod.proofs.Modular.{same_by, same_refl, same_sym, same_trans, same-add, same-scale, same-mul}
 use Rattle.algebraic_reduction.specs.Reduction.{boundary_by, Step, project, include, homotopy, left, IsBoundary, IsStep, IsOff}
-use Rattle.algebraic_reduction.proofs.Singles.{eqb_cases, eqb_sym, total-single, neg_cancel, one_nonzero}
+use Rattle.chains.proofs.TermLists.{eqb_cases}
+use Rattle.chains.proofs.Boundary.{total-single}
+use Rattle.chains.proofs.Dependent.{neg_cancel, one_nonzero}
+
+pub eqb_sym : (a b : ℕ) → eqb a b ≡ eqb b a
+eqb_sym a b = elim (eqb b a) as (λ v. eqb b a ≡ v → eqb a b ≡ v) [ true ↦ λ e. eq-eqb a b (sym (eqb-true b a e)) | false ↦ λ e. ne_eqb a b (λ q. let r = eq-eqb b a (sym q) in absurd (true≢false (sym r ∙ e))) ] refl
 
 -- a sum over generators of which one has more
 apply-single : (n b m : ℕ) (D : ℕ → ℕ → ℕ) (x y : ℕ → ℕ) → b < n → ((h : ℕ) → x h + cond (eqb b h) m 0 ≡ y h) → (g : ℕ) → boundary_by n D x g + m * D b g ≡ boundary_by n D y g

@@ -1,17 +1,18 @@
 -- Inclusion, homotopy and transposed projection as solutions of the triangular systems of the columns and of the rows.
-use Rattle.std.proofs.Common.{◌≡◌, ◌≢◌, ℕ, zero, suc, ◌+◌, ◌-◌, ◌*◌, ◌<◌, ◌≤◌, ◌⊎◌, inl, inr, refl, sym, ap, ◌∙◌, arith, ⊎_elim, List, [], ◌∷◌, length, get_or, take, true, false, cond, eqb, eq-eqb, ne_eqb, subst}
+use Rattle.std.proofs.Common.{◌≡◌, ◌≢◌, ℕ, suc, ◌+◌, ◌-◌, ◌*◌, ◌<◌, ◌≤◌, refl, sym, ap, ◌∙◌, arith, ⊎_elim, List, [], ◌∷◌, length, true, false, cond, eqb, eq-eqb, ne_eqb, subst}
 use Rattle.std.proofs.lemmas.Bool.{cases_eq, cases_lt}
 use Rattle.field_mod.specs.Sums.{total}
 use Rattle.field_mod.specs.Modular.{Same, minus}
-use Rattle.field_mod.proofs.Sums.{total-same, total-zero, total-add, total-scale, total_same}
+use Rattle.field_mod.proofs.Sums.{total-same, total-add, total-scale, total_same}
 use Rattle.field_mod.proofs.Modular.{same_by, same_refl, same_sym, same_trans, same-add, same-scale, same-mul}
 use Rattle.chains.specs.Terms.{coefficient}
-use Rattle.algebraic_reduction.specs.Maps.{IsNoB, projected, Equations, rest_at, IsSettled, columns, rows}
-use Rattle.algebraic_reduction.specs.Reduction.{boundary_by, single, Step, IsBoundary, IsStep, IsUnpaired, IsOnLeft, left, left_all, project, project_all, include, include_all, homotopy, homotopy_all, AreSteps}
+use Rattle.algebraic_reduction.specs.Maps.{IsNoB, projected, rest_at, IsSettled, columns, rows}
+use Rattle.algebraic_reduction.specs.Reduction.{boundary_by, single, Step, IsBoundary, IsStep, IsUnpaired, IsOnLeft, left, project, project_all, include, include_all, homotopy, homotopy_all, AreSteps}
 use Rattle.algebraic_reduction.specs.Laws.{AreApart}
-use Rattle.algebraic_reduction.specs.Kept.{KeptStep, steps_of, IsKept, AreKept, no_step, nth, a_at, b_at, inverse_at, row_at, column_at}
-use Rattle.algebraic_reduction.proofs.Singles.{eqb_sym, total-single, neg_cancel}
-use Rattle.algebraic_reduction.proofs.OneStep.{include-same}
+use Rattle.algebraic_reduction.specs.Kept.{KeptStep, steps_of, IsKept, AreKept, a_at, b_at, inverse_at, column_at}
+use Rattle.chains.proofs.Boundary.{total-single}
+use Rattle.chains.proofs.Dependent.{neg_cancel}
+use Rattle.algebraic_reduction.proofs.OneStep.{eqb_sym, include-same}
 use Rattle.algebraic_reduction.proofs.Steps.{step_one, project-off_all}
 use Rattle.algebraic_reduction.proofs.LeftBasis.{decide_unpaired, off_paired}
 use Rattle.algebraic_reduction.proofs.KeptSteps.{unpaired_at, apart_at, column_before, row_before}
@@ -78,13 +79,13 @@ module _ (p n : ℕ) (degree : ℕ → ℕ) (two : 2 ≤ p) where
   pub include_settled : (D : ℕ → ℕ → ℕ) (ks : List KeptStep) → IsBoundary p n degree D → AreSteps p n D (steps_of ks) → AreKept p D ks → AreApart (steps_of ks) → (y0 y : ℕ → ℕ) → IsOnLeft p (steps_of ks) y0 → ((g : ℕ) → IsNoB (steps_of ks) g → Same p (y g) (y0 g)) → ((i : ℕ) → i < length ks → IsSettled p n (columns ks) y0 y i) → (g : ℕ) → Same p (include_all p n D (steps_of ks) y0 g) (y g)
   include_settled D [] bd st kp apart y0 y off others s g = same_sym (others g tt)
   include_settled D (k ∷ ks) bd st kp apart y0 y off others s g =
-      let D1 = left p D k.step in
+      let after = left p D k.step in
       let y1 = put k y0 y in
       let zs : (h : ℕ) → put k y0 y0 h ≡ y0 h = λ h. elim (eqb h k.step.b) as (λ v. cond v (y0 h) (y0 h) ≡ y0 h) [ true ↦ refl | false ↦ refl ] in
-      let inner : (h : ℕ) → Same p (include_all p n D1 (steps_of ks) y0 h) (y1 h) = include_settled D1 ks (step_one p n degree two bd st.0) st.1 kp.1 apart.2 y0 y1 off.1
+      let inner : (h : ℕ) → Same p (include_all p n after (steps_of ks) y0 h) (y1 h) = include_settled after ks (step_one p n degree two bd st.0) st.1 kp.1 apart.2 y0 y1 off.1
       (λ h u. ⊎_elim (λ e. rw (eq-eqb h k.step.b e) (same_refl p (y0 h))) (λ f. rw (ne_eqb h k.step.b f) (others h (f, u))) (cases_eq h k.step.b))
       (λ i l. subst (λ (v : ℕ). Same p (y1 (b_at ks i)) (v + minus p (inverse_at ks i * rest_at n (columns ks) y1 i))) (zs (b_at ks i)) (later_settled D k ks bd st kp apart y0 y0 y0 y (λ j q. s j (omega arith)) i l)) in
-      same_trans (include-same p n degree D k.step two bd st.0 (include_all p n D1 (steps_of ks) y0) y1 inner g)
+      same_trans (include-same p n degree D k.step two bd st.0 (include_all p n after (steps_of ks) y0) y1 inner g)
       (⊎_elim
       (λ e. subst (λ (h : ℕ). Same p (include p n D k.step y1 h) (y h)) (sym e) (rw (eq-eqb k.step.b k.step.b refl) (same_trans (same-add (same_refl p (y0 k.step.b)) (same-scale (p - 1) (same-scale k.step.inverse (first_sum D k ks y0 y kp.0 off.0.at_b)))) (same_sym (s 0 (omega arith))))))
       (λ f. rw (ne_eqb g k.step.b f) (same_refl p (y g)))
@@ -94,17 +95,17 @@ module _ (p n : ℕ) (degree : ℕ → ℕ) (two : 2 ≤ p) where
   pub homotopy_settled : (D : ℕ → ℕ → ℕ) (ks : List KeptStep) → IsBoundary p n degree D → AreSteps p n D (steps_of ks) → AreKept p D ks → AreApart (steps_of ks) → (x w y : ℕ → ℕ) → ((g : ℕ) → IsNoB (steps_of ks) g → Same p (w g) 0) → ((i : ℕ) → i < length ks → Same p (w (b_at ks i)) (inverse_at ks i * projected p D ks x i (a_at ks i))) → ((g : ℕ) → IsNoB (steps_of ks) g → Same p (y g) (w g)) → ((i : ℕ) → i < length ks → IsSettled p n (columns ks) w y i) → (g : ℕ) → Same p (homotopy_all p n D (steps_of ks) x g) (y g)
   homotopy_settled D [] bd st kp apart x w y off weights others s g = same_sym (same_trans (others g tt) (off g tt))
   homotopy_settled D (k ∷ ks) bd st kp apart x w y off weights others s g =
-      let D1 = left p D k.step in
+      let after = left p D k.step in
       let none : ℕ → ℕ = λ _. 0 in
       let w1 = put k none w in
       let y1 = put k none y in
       let x1 = project p D k.step x in
-      let inner : (h : ℕ) → Same p (homotopy_all p n D1 (steps_of ks) x1 h) (y1 h) = homotopy_settled D1 ks (step_one p n degree two bd st.0) st.1 kp.1 apart.2 x1 w1 y1
+      let inner : (h : ℕ) → Same p (homotopy_all p n after (steps_of ks) x1 h) (y1 h) = homotopy_settled after ks (step_one p n degree two bd st.0) st.1 kp.1 apart.2 x1 w1 y1
       (λ h u. ⊎_elim (λ e. rw (eq-eqb h k.step.b e) (same_refl p 0)) (λ f. rw (ne_eqb h k.step.b f) (off h (f, u))) (cases_eq h k.step.b))
       (λ i l. let f : b_at ks i ≢ k.step.b = λ e. (unpaired_at ks k.step.b apart.1 i l).1 (sym e) in same_trans (same_by p 0 0 _ _ (ap (λ v. v + p * 0) (put-other k none w (b_at ks i) f))) (weights (suc i) (omega arith)))
       (λ h u. ⊎_elim (λ e. rw (eq-eqb h k.step.b e) (same_refl p 0)) (λ f. rw (ne_eqb h k.step.b f) (others h (f, u))) (cases_eq h k.step.b))
       (λ i l. later_settled D k ks bd st kp apart none none w y (λ j q. s j (omega arith)) i l) in
-      same_trans (same-add (same_refl p (homotopy k.step x g)) (include-same p n degree D k.step two bd st.0 (homotopy_all p n D1 (steps_of ks) x1) y1 inner g))
+      same_trans (same-add (same_refl p (homotopy k.step x g)) (include-same p n degree D k.step two bd st.0 (homotopy_all p n after (steps_of ks) x1) y1 inner g))
       (⊎_elim
       (λ e. subst (λ (h : ℕ). Same p (homotopy k.step x h + include p n D k.step y1 h) (y h)) (sym e) (rw (eq-eqb k.step.b k.step.b refl) (same_trans (same-add (same_sym (weights 0 (omega arith))) (same-add (same_refl p 0) (same-scale (p - 1) (same-scale k.step.inverse (first_sum D k ks none y kp.0 (same_refl p 0)))))) (same_trans (same_by p 0 0 _ (w k.step.b + minus p (k.step.inverse * rest_at n (columns (k ∷ ks)) y 0)) (omega arith)) (same_sym (s 0 (omega arith)))))))
       (λ f. rw (ne_eqb g k.step.b f) (same_by p 0 0 _ _ (omega arith)))

@@ -1,14 +1,12 @@
 -- What the fields of a log hold at the start.
-use Rattle.std.proofs.Common.{◌≡◌, ◌≢◌, ℕ, zero, suc, ◌+◌, ◌-◌, ◌*◌, ◌<◌, ◌≤◌, refl, sym, ap, ◌∙◌, arith, ⊎_elim, List, [], ◌∷◌, ◌++◌, length, get_or, take, subst, Option, Some, None, length-append}
+use Rattle.std.proofs.Common.{◌≡◌, ◌≢◌, ℕ, ◌+◌, ◌*◌, ◌<◌, refl, sym, ap, ◌∙◌, arith, ⊎_elim, List, [], ◌∷◌, ◌++◌, length, get_or, take, subst, Option, Some, None, length-append}
 use Rattle.std.proofs.lemmas.Bool.{cases_lt, cases_eq}
-use Rattle.std.proofs.lemmas.List.{get_or_past, get_or_append_left, take_more}
+use Rattle.std.proofs.lemmas.List.{get_or_past, get_or_append_left}
 use Rattle.std.proofs.Math.Seq.{get_or-append_seam}
-use Rattle.field_mod.specs.Modular.{Same, NonZero}
 use Rattle.field_mod.proofs.Modular.{same_by, same_refl}
 use Rattle.chains.specs.Terms.{coefficient}
 use Rattle.chains.specs.ChainComplex.{ChainComplex, IsComplex, incidence}
-use Rattle.algebraic_reduction.specs.Reduction.{IsUnpaired}
-use Rattle.algebraic_reduction.specs.State.{Names, NamesStay, AreCovered, place_at, IsState}
+use Rattle.algebraic_reduction.specs.State.{Names, NamesStay, place_at, IsState}
 use Rattle.algebraic_reduction.proofs.OneMore.{written}
 
 -- each generator below k is named at the generators of its boundary

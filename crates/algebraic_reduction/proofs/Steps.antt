@@ -3,11 +3,12 @@ use Rattle.std.proofs.Common.{◌≡◌, ◌≢◌, ℕ, ◌+◌, ◌-◌, ◌*�
 use Rattle.std.proofs.lemmas.Bool.{cases_eq}
 use Rattle.field_mod.specs.Sums.{total}
 use Rattle.field_mod.specs.Modular.{Same, minus}
-use Rattle.field_mod.proofs.Sums.{total-same, total-zero, total-add, total-scale, total-swap, total_same}
+use Rattle.field_mod.proofs.Sums.{total-same, total-zero, total_same}
 use Rattle.field_mod.proofs.Modular.{same_by, same_refl, same_sym, same_trans, same-add, same-scale, same-mul}
 use Rattle.algebraic_reduction.specs.Reduction.{boundary_by, Step, project, include, homotopy, left, IsBoundary, IsStep, IsOff, IsOnLeft, AreSteps, left_all, project_all, include_all, homotopy_all}
 use Rattle.algebraic_reduction.proofs.OneStep.{identity, project-same, include-same, include-add, homotopy-same, apply-add, project-off, project-boundary, include-boundary, left_is_boundary, row, row_none, round_trip, include-combination, degrees}
-use Rattle.algebraic_reduction.proofs.Singles.{eqb_cases, one_nonzero}
+use Rattle.chains.proofs.TermLists.{eqb_cases}
+use Rattle.chains.proofs.Dependent.{one_nonzero}
 
 -- neither row nor column of v is left
 pub record IsDead (p : ℕ) (D : ℕ → ℕ → ℕ) (v : ℕ) : Type 0 where
@@ -74,27 +75,27 @@ module _ (p n : ℕ) (degree : ℕ → ℕ) (two : 2 ≤ p) where
   pub log_identity : (D : ℕ → ℕ → ℕ) (ss : List Step) → IsBoundary p n degree D → AreSteps p n D ss → (x : ℕ → ℕ) (g : ℕ) → Same p (include_all p n D ss (project_all p D ss x) g + (boundary_by n D (homotopy_all p n D ss x) g + homotopy_all p n D ss (boundary_by n D x) g)) (x g)
   log_identity D [] bd l x g = same_by p 0 0 _ _ (omega (arith, total-same n (λ h. 0 * D h g) (λ h. 0) (λ h k. omega arith), total-zero n))
   log_identity D (s ∷ ss) bd l x g =
-      let D1 = left p D s in
+      let after = left p D s in
       let bd1 = left_is_boundary p n degree D s two bd l.0 in
       let x1 = project p D s x in
-      let h1 = homotopy_all p n D1 ss x1 in
-      let i1 = include_all p n D1 ss (project_all p D1 ss x1) in
-      let k1 = homotopy_all p n D1 ss (boundary_by n D1 x1) in
-      let k2 = homotopy_all p n D1 ss (project p D s (boundary_by n D x)) in
+      let h1 = homotopy_all p n after ss x1 in
+      let i1 = include_all p n after ss (project_all p after ss x1) in
+      let k1 = homotopy_all p n after ss (boundary_by n after x1) in
+      let k2 = homotopy_all p n after ss (project p D s (boundary_by n D x)) in
       let inc : (ℕ → ℕ) → ℕ = λ y. include p n D s y g in
-      let off : IsOff p s h1 = record { at_a = same_by p 0 0 _ _ (ap (λ v. v + p * 0) (homotopy-dead D1 ss s.a l.1 (pair-dead_a D s bd l.0) x1)); at_b = same_by p 0 0 _ _ (ap (λ v. v + p * 0) (homotopy-dead D1 ss s.b l.1 (pair-dead_b D s bd l.0) x1)) } in
-      let a = include-same p n degree D s two bd l.0 (λ k. i1 k + (boundary_by n D1 h1 k + k1 k)) x1 (log_identity D1 ss bd1 l.1 x1) g in
-      let b1 = include-add p n degree D s two bd l.0 i1 (λ k. boundary_by n D1 h1 k + k1 k) g in
-      let b2 = include-add p n degree D s two bd l.0 (boundary_by n D1 h1) k1 g in
+      let off : IsOff p s h1 = record { at_a = same_by p 0 0 _ _ (ap (λ v. v + p * 0) (homotopy-dead after ss s.a l.1 (pair-dead_a D s bd l.0) x1)); at_b = same_by p 0 0 _ _ (ap (λ v. v + p * 0) (homotopy-dead after ss s.b l.1 (pair-dead_b D s bd l.0) x1)) } in
+      let a = include-same p n degree D s two bd l.0 (λ k. i1 k + (boundary_by n after h1 k + k1 k)) x1 (log_identity after ss bd1 l.1 x1) g in
+      let b1 = include-add p n degree D s two bd l.0 i1 (λ k. boundary_by n after h1 k + k1 k) g in
+      let b2 = include-add p n degree D s two bd l.0 (boundary_by n after h1) k1 g in
       let c = include-boundary p n degree D s two bd l.0 h1 off g in
-      let d : Same p (inc k2) (inc k1) = include-same p n degree D s two bd l.0 k2 k1 (homotopy_all-same D1 ss bd1 l.1 (project p D s (boundary_by n D x)) (boundary_by n D1 x1) (λ k. same_sym (project-boundary p n degree D s two bd l.0 x k))) g in
+      let d : Same p (inc k2) (inc k1) = include-same p n degree D s two bd l.0 k2 k1 (homotopy_all-same after ss bd1 l.1 (project p D s (boundary_by n D x)) (boundary_by n after x1) (λ k. same_sym (project-boundary p n degree D s two bd l.0 x k))) g in
       let e = identity p n degree D s two bd l.0 x g in
       let f = apply-add p n degree D s two bd l.0 D (homotopy s x) (include p n D s h1) g in
       let hs = boundary_by n D (homotopy s x) g in
       let hd = homotopy s (boundary_by n D x) g in
       same_trans (same_by p 0 0 _ ((inc i1 + hs + hd) + (boundary_by n D (include p n D s h1) g + inc k2)) (omega arith))
       (same_trans (same-add (same_refl p (inc i1 + hs + hd)) (same-add c d))
-      (same_trans (same_by p 0 0 _ (inc (λ k. i1 k + (boundary_by n D1 h1 k + k1 k)) + (hs + hd)) (omega arith))
+      (same_trans (same_by p 0 0 _ (inc (λ k. i1 k + (boundary_by n after h1 k + k1 k)) + (hs + hd)) (omega arith))
       (same_trans (same-add a (same_refl p (hs + hd))) e)))
 
   pub step_one : {D : ℕ → ℕ → ℕ} {s : Step} → IsBoundary p n degree D → IsStep p n D s → IsBoundary p n degree (left p D s)

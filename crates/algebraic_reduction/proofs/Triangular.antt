@@ -1,13 +1,11 @@
 -- Solving a triangular system by its last equations first. Equation i has the pivot v i; it is kept where the value at v i is
 -- the value at the start less inverse i times the sum of e i g times the values at all other g.
-use Rattle.std.proofs.Common.{◌≡◌, ◌≢◌, ℕ, ◌+◌, ◌-◌, ◌*◌, ◌<◌, ◌≤◌, ◌⊎◌, inl, inr, refl, sym, ap, ◌∙◌, arith, ⊎_elim, true, false, cond, eqb, eq-eqb, ne_eqb, Bool, subst}
+use Rattle.std.proofs.Common.{◌≡◌, ◌≢◌, ℕ, ◌+◌, ◌-◌, ◌*◌, ◌<◌, ◌≤◌, ◌⊎◌, inl, inr, refl, sym, arith, ⊎_elim, true, false, cond, eqb, eq-eqb, ne_eqb, Bool, subst}
 use Rattle.std.proofs.lemmas.Bool.{cases_eq, cases_lt}
-use Rattle.field_mod.specs.Sums.{total}
 use Rattle.field_mod.specs.Modular.{Same, minus}
-use Rattle.field_mod.proofs.Sums.{total-same, total-zero, total_same}
+use Rattle.field_mod.proofs.Sums.{total-zero, total_same}
 use Rattle.field_mod.proofs.Modular.{same_by, same_refl, same_sym, same_trans, same-add, same-scale, same-mul}
 use Rattle.algebraic_reduction.specs.Maps.{Equations, rest_at, IsSettled}
-use Rattle.algebraic_reduction.proofs.Singles.{eqb_cases}
 
 -- pivots are distinct, and an equation has nothing at an earlier one's pivot
 pub record IsTriangular (p : ℕ) (e : Equations) : Type 0 where
@@ -27,12 +25,16 @@ module _ (p n : ℕ) (e : Equations) (tri : IsTriangular p e) (y0 : ℕ → ℕ)
   rest-none : (y : ℕ → ℕ) (i : ℕ) → ((g : ℕ) → g < n → g ≢ e.pivot i → Same p (e.at i g * y g) 0) → Same p (rest_at n e y i) 0
   rest-none y i z = same_trans (total_same p n (λ g. cond (eqb g (e.pivot i)) 0 (e.at i g * y g)) (λ g. 0) (λ g l. ⊎_elim (λ q. rw (eq-eqb g (e.pivot i) q) (same_refl p 0)) (λ f. rw (ne_eqb g (e.pivot i) f) (z g l f)) (cases_eq g (e.pivot i)))) (same_by p 0 0 _ _ (omega (arith, total-zero n)))
 
-  rest-same : (y z : ℕ → ℕ) (i : ℕ) → ((g : ℕ) → g ≢ e.pivot i → Same p (e.at i g * y g) (e.at i g * z g)) → Same p (rest_at n e y i) (rest_at n e z i)
+  pub rest-same : (y z : ℕ → ℕ) (i : ℕ) → ((g : ℕ) → g ≢ e.pivot i → Same p (e.at i g * y g) (e.at i g * z g)) → Same p (rest_at n e y i) (rest_at n e z i)
   rest-same y z i h = total_same p n (λ g. cond (eqb g (e.pivot i)) 0 (e.at i g * y g)) (λ g. cond (eqb g (e.pivot i)) 0 (e.at i g * z g)) (λ g l. ⊎_elim (λ q. rw (eq-eqb g (e.pivot i) q) (same_refl p 0)) (λ f. rw (ne_eqb g (e.pivot i) f) (h g f)) (cases_eq g (e.pivot i)))
 
   -- an equation that is not due is kept
   idle : (y : ℕ → ℕ) (i : ℕ) → Same p (y (e.pivot i)) (y0 (e.pivot i)) → ((g : ℕ) → g < n → g ≢ e.pivot i → Same p (e.at i g * y g) 0) → IsSettled p n e y0 y i
   idle y i same z = same_trans same (same_sym (same_trans (same-add (same_refl p (y0 (e.pivot i))) (same-scale (p - 1) (same-scale (e.inverse i) (rest-none y i z)))) (same_by p 0 0 _ _ (omega arith))))
+
+  -- values modulo p alone count
+  pub settled_same : (y z : ℕ → ℕ) (i : ℕ) → ((g : ℕ) → Same p (z g) (y g)) → IsSettled p n e y0 y i → IsSettled p n e y0 z i
+  settled_same y z i s h = same_trans (s (e.pivot i)) (same_trans h (same-add (same_refl p (y0 (e.pivot i))) (same-scale (p - 1) (same-scale (e.inverse i) (rest-same y z i (λ g f. same-scale (e.at i g) (same_sym (s g))))))))
 
   -- no equation is due: all are kept
   pub settled_all : (y : ℕ → ℕ) (due : ℕ → Bool) (bound : ℕ) → Settling p n e y0 y due bound → ((i : ℕ) → due i ≡ false) → (i : ℕ) → i < e.count → IsSettled p n e y0 y i

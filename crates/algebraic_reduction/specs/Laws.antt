@@ -1,6 +1,6 @@
 -- What the maps of a list of steps are to the complex: a reduction of it; and what follows where no boundary is left.
 -- (Kaczynski, Mischaikow, Mrozek: Computational Homology, Springer 2004, sections 4.3 and 4.4)
-use Rattle.std.specs.Prelude.{◌≡◌, ◌≢◌, ℕ, ◌+◌, ◌*◌, ◌<◌, ◌≤◌, List, [], ◌∷◌, length, slice_index}
+use Rattle.std.specs.Prelude.{◌≡◌, ℕ, ◌+◌, ◌*◌, ◌<◌, ◌≤◌, List, [], ◌∷◌, length, slice_index}
 use Rattle.field_mod.specs.Modular.{Same, IsField}
 use Rattle.chains.specs.Homology.{IsChain, IsBasis}
 use Rattle.chains.specs.ChainComplex.{ChainComplex, IsComplex, incidence, boundary, system}
@@ -40,7 +40,7 @@ abbrev pub IsLinear : ℕ → ((ℕ → ℕ) → ℕ → ℕ) → Type 0
 IsLinear p f = (u v : ℕ) (x y : ℕ → ℕ) (g : ℕ) → Same p (f (λ h. u * x h + v * y h) g) (u * f x g + v * f y g)
 
 -- the steps reduce the complex K. What is left is a complex on the generators in no step; projection, inclusion and
--- homotopy are linear; projection and inclusion go from K to what is left and back, keep degrees and commute with the
+-- homotopy are linear, and maps of numbers modulo p; projection and inclusion go from K to what is left and back, keep degrees and commute with the
 -- boundaries; the homotopy raises degrees by one; the projection of an inclusion is the chain that was included; and the
 -- identity less the inclusion of the projection is the boundary of the homotopy and the homotopy of the boundary
 pub record IsReduction (p : ℕ) (K : ChainComplex) (ss : List Step) : Type 0 where
@@ -50,13 +50,16 @@ pub record IsReduction (p : ℕ) (K : ChainComplex) (ss : List Step) : Type 0 wh
   pub left_lowers : (h : ℕ) (k : ℕ) → h < length K.boundaries → slice_index K.degrees h ≡ k + 1 → IsChain p (system K) k (left_of p K ss h)
   pub left_on_left : (h g : ℕ) → ¬ IsUnpaired ss g → Same p (left_of p K ss h g) 0 × Same p (left_of p K ss g h) 0
   pub project_linear : IsLinear p (project_of p K ss)
+  pub project_same : (x y : ℕ → ℕ) → ((g : ℕ) → Same p (x g) (y g)) → (g : ℕ) → Same p (project_of p K ss x g) (project_of p K ss y g)
   pub project_on_left : (x : ℕ → ℕ) → IsOnLeft p ss (project_of p K ss x)
   pub project_degree : (k : ℕ) (x : ℕ → ℕ) → IsChain p (system K) k x → IsChain p (system K) k (project_of p K ss x)
   pub project_boundary : (x : ℕ → ℕ) (g : ℕ) → Same p (left_boundary_of p K ss (project_of p K ss x) g) (project_of p K ss (boundary K.boundaries x) g)
   pub include_linear : IsLinear p (include_of p K ss)
+  pub include_same : (x y : ℕ → ℕ) → ((g : ℕ) → Same p (x g) (y g)) → (g : ℕ) → Same p (include_of p K ss x g) (include_of p K ss y g)
   pub include_degree : (k : ℕ) (y : ℕ → ℕ) → IsChain p (system K) k y → IsChain p (system K) k (include_of p K ss y)
   pub include_boundary : (y : ℕ → ℕ) → IsOnLeft p ss y → (g : ℕ) → Same p (boundary K.boundaries (include_of p K ss y) g) (include_of p K ss (left_boundary_of p K ss y) g)
   pub homotopy_linear : IsLinear p (homotopy_of p K ss)
+  pub homotopy_same : (x y : ℕ → ℕ) → ((g : ℕ) → Same p (x g) (y g)) → (g : ℕ) → Same p (homotopy_of p K ss x g) (homotopy_of p K ss y g)
   pub homotopy_degree : (k : ℕ) (x : ℕ → ℕ) → IsChain p (system K) k x → IsChain p (system K) (k + 1) (homotopy_of p K ss x)
   pub round_trip : (y : ℕ → ℕ) → IsOnLeft p ss y → (g : ℕ) → Same p (project_of p K ss (include_of p K ss y) g) (y g)
   pub identity : (x : ℕ → ℕ) (g : ℕ) → Same p (include_of p K ss (project_of p K ss x) g + (boundary K.boundaries (homotopy_of p K ss x) g + homotopy_of p K ss (boundary K.boundaries x) g)) (x g)

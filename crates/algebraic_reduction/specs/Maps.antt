@@ -1,9 +1,11 @@
 -- How the maps of a list of kept steps are computed: a chain that descends along the rows, and values that keep the equations of
 -- the columns, or of the rows.
-use Rattle.std.specs.Prelude.{◌≡◌, ◌≢◌, ℕ, ◌+◌, ◌-◌, ◌*◌, ◌<◌, ◌≤◌, List, [], ◌∷◌, length, take, if◌then◌else◌, ◌==◌}
+use Rattle.std.specs.Prelude.{◌≡◌, ◌≢◌, ℕ, ◌+◌, ◌*◌, ◌<◌, ◌≤◌, List, [], ◌∷◌, length, take, if◌then◌else◌, ◌==◌, Option, Some, None}
 use Rattle.field_mod.specs.Sums.{total}
 use Rattle.field_mod.specs.Modular.{Same, minus}
+use Rattle.chains.specs.Terms.{coefficient}
 use Rattle.algebraic_reduction.specs.Reduction.{Step, project_all}
+use Rattle.algebraic_reduction.specs.State.{place_at}
 use Rattle.algebraic_reduction.specs.Kept.{KeptStep, steps_of, a_at, b_at, inverse_at, row_at, column_at}
 
 -- g is no b of a step
@@ -23,6 +25,14 @@ pub record Descent (p : ℕ) (D : ℕ → ℕ → ℕ) (ks : List KeptStep) (sta
   pub weights : (i : ℕ) → i < done → Same p (w (b_at ks i)) (inverse_at ks i * projected p D ks start i (a_at ks i))
   pub ahead : (i : ℕ) → done ≤ i → i < length ks → Same p (w (b_at ks i)) 0
   pub off : (g : ℕ) → IsNoB (steps_of ks) g → Same p (w g) 0
+
+-- all steps are made: raised has what the homotopies of the single steps give, and left is the end of the descent at the
+-- generators in no step
+pub record HasDescended (p : ℕ) (D : ℕ → ℕ → ℕ) (places : List (Option ℕ)) (ks : List KeptStep) (start : ℕ → ℕ) (left raised : List (ℕ × ℕ)) : Type 0 where
+  pub chain : ℕ → ℕ
+  pub descent : Descent p D ks start chain (coefficient raised) (length ks)
+  pub left_at : (g : ℕ) → place_at places g ≡ None → Same p (coefficient left g) (chain g)
+  pub dropped : (g i : ℕ) → place_at places g ≡ Some i → coefficient left g ≡ 0
 
 -- the equations' number, pivots, inverses and coefficients
 pub record Equations : Type 0 where

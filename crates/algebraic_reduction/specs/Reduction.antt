@@ -1,7 +1,7 @@
 -- The algebraic reduction of a complex by pairs of generators. The generators are the numbers below n, and D h g is the
 -- incidence number of h and g: the coefficient of g in the boundary of h. Numbers are compared modulo p.
 -- (Kaczynski, Mischaikow, Mrozek: Computational Homology, Springer 2004, section 4.3)
-use Rattle.std.specs.Prelude.{◌≡◌, ◌≢◌, ℕ, zero, suc, ◌+◌, ◌-◌, ◌*◌, ◌<◌, if◌then◌else◌, ◌==◌, List, [], ◌∷◌}
+use Rattle.std.specs.Prelude.{◌≢◌, ℕ, ◌+◌, ◌*◌, ◌<◌, if◌then◌else◌, ◌==◌, List, [], ◌∷◌}
 use Rattle.field_mod.specs.Sums.{total}
 use Rattle.field_mod.specs.Modular.{Same, minus}
 

@@ -1,7 +1,6 @@
 -- What the fields of a log hold together.
-use Rattle.std.specs.Prelude.{◌≡◌, ℕ, ◌+◌, ◌*◌, ◌<◌, ◌≤◌, List, [], ◌∷◌, length, slice_index, slice_index_or, Option, Some, None}
-use Rattle.field_mod.specs.Modular.{Same, NonZero, minus}
-use Rattle.chains.specs.Terms.{coefficient}
+use Rattle.std.specs.Prelude.{◌≡◌, ℕ, ◌<◌, ◌≤◌, List, [], length, slice_index, slice_index_or, Option, Some, None}
+use Rattle.field_mod.specs.Modular.{Same, NonZero}
 use Rattle.chains.specs.ChainComplex.{ChainComplex, IsComplex, incidence}
 use Rattle.algebraic_reduction.specs.Reduction.{IsUnpaired}
 use Rattle.algebraic_reduction.specs.Laws.{AreStepsOf, left_of}

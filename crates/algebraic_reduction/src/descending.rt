@@ -1,58 +1,90 @@
 //! The descent of a chain along the rows of the steps.
-ghost use Rattle.std.specs.Prelude.{◌≡◌, ◌≢◌, ℕ, ◌+◌, ◌*◌, ◌%◌, ◌<◌, ◌≤◌, List, length, IfOk, None, Some};
+ghost use Rattle.std.specs.Prelude.{◌≡◌, ◌≢◌, ℕ, ◌+◌, ◌*◌, ◌%◌, ◌<◌, ◌≤◌, ◌⊎◌, List, length, IfOk, OnOk, IfSome, None, Some, if◌then◌else◌, ◌==◌};
 ghost use Rattle.field_mod.specs.Modular.{Same};
 ghost use Rattle.chains.specs.Terms.{coefficient};
 ghost use Rattle.chains.specs.ChainComplex.{incidence};
 ghost use Rattle.algebraic_reduction.specs.Laws.{project_of};
 ghost use Rattle.algebraic_reduction.specs.Kept.{steps_of, a_at};
-ghost use Rattle.algebraic_reduction.specs.Maps.{Descent};
+ghost use Rattle.algebraic_reduction.specs.Maps.{HasDescended};
 ghost use Rattle.algebraic_reduction.specs.State.{IsState, place_at};
 
+use crate::numbers::Numbers;
 use crate::stepping::{Parts, place_of};
 use chains::Chain;
 use field_mod::Field;
 use std::alloc::{AllocError, Global};
 
-/// The step whose a the generator is, where it is one from `from` on and before `least`; else `least`.
-fn earlier<const P: u16>(parts: &Parts<P>, generator: u32, from: u32, least: u32) -> u32
-    requires order { from ≤ least }
-    requires inside { least ≤ length parts.now.steps.items }
+/// The step from `from` on whose a the generator is.
+fn step_of_a<const P: u16>(parts: &Parts<P>, generator: u32, from: u32) -> Option<u32>
     requires state { IsState P parts.now.complex parts.now.boundaries.items parts.now.cofaces.items parts.now.standing.items parts.now.places.items parts.now.steps.items }
-    ensures low { from ≤ result }
-    ensures high { result ≤ least }
-    ensures found { (j : ℕ) → from ≤ j → j < least → a_at parts.now.steps.items j ≡ generator → result ≤ j }
+    ensures some { IfSome result (λ i. (from ≤ i) × (i < length parts.now.steps.items) × (a_at parts.now.steps.items i ≡ generator)) }
+    ensures found { (i : ℕ) → from ≤ i → i < length parts.now.steps.items → a_at parts.now.steps.items i ≡ generator → result ≡ Some i }
 {
-    if let Some(place) = place_of(&parts.places, generator) {
-        if from <= place && place < least {
-            if parts.steps[place as usize].a() == generator {
-                return place;
-            }
-        }
+    let place = place_of(&parts.places, generator)?;
+    if from <= place && parts.steps[place as usize].a() == generator {
+        Some(place)
+    } else {
+        None
     }
-    least
 }
 
-/// The first step from `from` on at whose a the chain has a term, or the number of steps.
-fn next_step<const P: u16>(parts: &Parts<P>, chain: &Chain<P>, from: u32, count: u32) -> u32
-    requires order { from ≤ count }
-    requires count { count ≡ length parts.now.steps.items }
+/// Adds a number that stands at a generator: to what is pending at the step from `from` on whose a it is, or to what is left
+/// where it is in no step. At the a of an earlier step and at a b it is dropped.
+fn spread_one<const P: u16>(
+    parts: &Parts<P>,
+    field: Field<P>,
+    generator: u32,
+    number: u16,
+    from: u32,
+    pending: &mut Numbers<P>,
+    left: &mut Vec<(u32, u16)>,
+) -> Result<(), AllocError>
+    requires below { number < P }
     requires state { IsState P parts.now.complex parts.now.boundaries.items parts.now.cofaces.items parts.now.standing.items parts.now.places.items parts.now.steps.items }
-    ensures low { from ≤ result }
-    ensures high { result ≤ count }
-    ensures before { (j : ℕ) → from ≤ j → j < result → coefficient chain.now (a_at parts.now.steps.items j) ≡ 0 }
+    ensures left { OnOk result ((g : ℕ) → place_at parts.now.places.items g ≡ None → coefficient left.new.items g ≡ coefficient left.old.items g + (if generator == g then number else 0)) }
+    ensures dropped { OnOk result ((g i : ℕ) → place_at parts.now.places.items g ≡ Some i → coefficient left.new.items g ≡ coefficient left.old.items g) }
+    ensures pending { OnOk result ((j : ℕ) → from ≤ j → j < length parts.now.steps.items → Same P (coefficient pending.new j) (coefficient pending.old j + (if generator == a_at parts.now.steps.items j then number else 0))) }
+    ensures inside { OnOk result ((j : ℕ) → coefficient pending.new j ≢ 0 → (coefficient pending.old j ≢ 0) ⊎ ((from ≤ j) × (j < length parts.now.steps.items))) }
 {
-    let mut least = count;
-    for (generator, _) in chain.terms() {
-        least = earlier(parts, *generator, from, least);
+    if place_of(&parts.places, generator).is_none() {
+        left.push((generator, number))?;
+    } else if let Some(place) = step_of_a(parts, generator, from) {
+        pending.add(field, place, number)?;
     }
-    least
+    Ok(())
 }
 
-/// What stands at the end of the descent of a chain, and what the homotopies of the single steps give on the way.
+/// Adds a multiple of a chain, term by term.
+fn spread<const P: u16>(
+    parts: &Parts<P>,
+    field: Field<P>,
+    chain: &Chain<P>,
+    scale: u16,
+    from: u32,
+    pending: &mut Numbers<P>,
+    left: &mut Vec<(u32, u16)>,
+) -> Result<(), AllocError>
+    requires below { scale < P }
+    requires state { IsState P parts.now.complex parts.now.boundaries.items parts.now.cofaces.items parts.now.standing.items parts.now.places.items parts.now.steps.items }
+    ensures left { OnOk result ((g : ℕ) → place_at parts.now.places.items g ≡ None → Same P (coefficient left.new.items g) (coefficient left.old.items g + scale * coefficient chain.now g)) }
+    ensures dropped { OnOk result ((g i : ℕ) → place_at parts.now.places.items g ≡ Some i → coefficient left.new.items g ≡ coefficient left.old.items g) }
+    ensures pending { OnOk result ((j : ℕ) → from ≤ j → j < length parts.now.steps.items → Same P (coefficient pending.new j) (coefficient pending.old j + scale * coefficient chain.now (a_at parts.now.steps.items j))) }
+    ensures inside { OnOk result ((j : ℕ) → coefficient pending.new j ≢ 0 → (coefficient pending.old j ≢ 0) ⊎ ((from ≤ j) × (j < length parts.now.steps.items))) }
+{
+    for index in 0..chain.len() {
+        let (generator, number) = chain.term(index);
+        let scaled = field.mul(scale, number);
+        spread_one(parts, field, generator, scaled, from, pending, left)?;
+    }
+    Ok(())
+}
+
+/// What the descent of a chain comes to: terms at generators in no step, and what the homotopies of the single steps give on
+/// the way.
 #[derive(Drop)]
-pub struct Descended<const P: u16> {
-    pub chain: Chain<P>,
-    pub raised: Chain<P>,
+pub struct Descended {
+    pub left: Vec<(u32, u16)>,
+    pub raised: Vec<(u32, u16)>,
 }
 
 /// Moves what stands at the a of a step along its row, step after step. Only steps that the chain meets are made.
@@ -61,23 +93,32 @@ pub fn descend<const P: u16>(
     alloc: Global,
     field: Field<P>,
     start: &Chain<P>,
-) -> Result<Descended<P>, AllocError>
+) -> Result<Descended, AllocError>
     requires state { IsState P parts.now.complex parts.now.boundaries.items parts.now.cofaces.items parts.now.standing.items parts.now.places.items parts.now.steps.items }
-    ensures { IfOk result (λ d. Descent P (incidence parts.now.complex.boundaries) parts.now.steps.items (coefficient start.now) (coefficient d.chain) (coefficient d.raised) (length parts.now.steps.items)) }
+    ensures { IfOk result (λ d. HasDescended P (incidence parts.now.complex.boundaries) parts.now.places.items parts.now.steps.items (coefficient start.now) d.left.items d.raised.items) }
 {
-    let count = parts.steps.len() as u32;
-    let mut chain = start.copy(alloc)?;
+    let mut pending = Numbers::new(alloc, field);
+    let mut left = Vec::new(alloc);
     let mut raised = Vec::new(alloc);
-    let mut next = next_step(parts, &chain, 0, count);
-    while next < count {
-        let step = &parts.steps[next as usize];
-        let weight = field.mul(step.inverse(), chain.coefficient(step.a()));
-        chain.add_scaled(field, field.neg(weight), step.row())?;
+    spread(parts, field, start, 1, 0, &mut pending, &mut left)?;
+    let mut from = 0;
+    'descending: while let Some((place, number)) = pending.take_first() {
+        let step = &parts.steps[place as usize];
+        let weight = field.mul(step.inverse(), number);
+        from = place + 1;
+        let scale = field.neg(weight);
+        spread(
+            parts,
+            field,
+            step.row(),
+            scale,
+            from,
+            &mut pending,
+            &mut left,
+        )?;
         raised.push((step.b(), weight))?;
-        next = next_step(parts, &chain, next + 1, count);
     }
-    let raised = Chain::from_terms(alloc, field, &raised)?;
-    Ok(Descended { chain, raised })
+    Ok(Descended { left, raised })
 }
 
 /// The terms at generators that are in no step.
@@ -111,6 +152,8 @@ pub fn project<const P: u16>(
     ensures { IfOk result (λ c. (g : ℕ) → Same P (coefficient c g) (project_of P parts.now.complex (steps_of parts.now.steps.items) (coefficient chain.now) g)) }
 {
     let descended = descend(parts, alloc, field, chain)?;
-    let left = left_terms(&parts.places, alloc, field, &descended.chain)?;
-    Ok(left)
+    let Descended { left, raised } = descended;
+    drop(raised);
+    let projected = Chain::from_terms(alloc, field, &left)?;
+    Ok(projected)
 }

@@ -10,12 +10,15 @@ mod kept;
 mod laws;
 mod log;
 mod maps;
+mod numbers;
 mod plan;
 mod reducing;
 mod settling;
 mod side;
 mod starting;
 mod stepping;
+#[cfg(test)]
+mod tests;
 
 pub use laws::{left_generators_are_basis, left_generators_are_dimension, steps_are_reductions};
 pub use log::Log;

@@ -48,6 +48,13 @@ impl<const P: u16> Log<P> {
         Ok(Log { parts, alloc })
     }
 
+    /// The complex, as it was at the start.
+    pub fn complex(&self) -> &Complex<P>
+        ensures { result.now ≡ self.now.complex }
+    {
+        &self.parts.complex
+    }
+
     /// Whether a generator of the complex is in no step.
     pub fn alive(&self, generator: u32) -> bool
         requires { generator < length self.now.complex.boundaries }
@@ -148,14 +155,15 @@ impl<const P: u16> Log<P> {
     }
 
     /// The transposed projection of a chain: the chain whose coefficient at a generator is the product of the given one with
-    /// the projection of the generator. Its cost is that of the steps in whose rows it stands.
+    /// the projection of the generator. Past the generators it is the given chain. Its cost is that of the steps in whose rows it stands.
     pub fn transposed_projection(
         &self,
         alloc: Global,
         field: Field<P>,
         chain: &Chain<P>,
     ) -> Result<Chain<P>, AllocError>
-        ensures { IfOk result (λ c. (g : ℕ) → g < length self.now.complex.boundaries → Same P (coefficient c g) (total (length self.now.complex.boundaries) (λ h. coefficient chain.now h * project_of P self.now.complex self.now.steps (single g) h))) }
+        ensures value { IfOk result (λ c. (g : ℕ) → g < length self.now.complex.boundaries → Same P (coefficient c g) (total (length self.now.complex.boundaries) (λ h. coefficient chain.now h * project_of P self.now.complex self.now.steps (single g) h))) }
+        ensures past { IfOk result (λ c. (g : ℕ) → length self.now.complex.boundaries ≤ g → Same P (coefficient c g) (coefficient chain.now g)) }
     {
         maps::transposed_projection(&self.parts, alloc, field, chain)
     }

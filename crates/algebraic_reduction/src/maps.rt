@@ -1,5 +1,5 @@
 //! The maps of all steps, but for the projection.
-ghost use Rattle.std.specs.Prelude.{◌≡◌, ℕ, ◌*◌, ◌<◌, length, IfOk};
+ghost use Rattle.std.specs.Prelude.{◌≡◌, ℕ, ◌*◌, ◌<◌, ◌≤◌, length, IfOk};
 ghost use Rattle.field_mod.specs.Sums.{total};
 ghost use Rattle.field_mod.specs.Modular.{Same};
 ghost use Rattle.chains.specs.Terms.{coefficient};
@@ -27,8 +27,7 @@ pub fn include<const P: u16>(
     requires left { IsOnLeft P (steps_of parts.now.steps.items) (coefficient chain.now) }
     ensures { IfOk result (λ c. (g : ℕ) → Same P (coefficient c g) (include_of P parts.now.complex (steps_of parts.now.steps.items) (coefficient chain.now) g)) }
 {
-    let start = chain.copy(alloc)?;
-    let values = settle(parts, alloc, field, Side::Columns, start)?;
+    let values = settle(parts, alloc, field, Side::Columns, chain)?;
     Ok(values)
 }
 
@@ -43,9 +42,10 @@ pub fn homotopy<const P: u16>(
     ensures { IfOk result (λ c. (g : ℕ) → Same P (coefficient c g) (homotopy_of P parts.now.complex (steps_of parts.now.steps.items) (coefficient chain.now) g)) }
 {
     let descended = descend(parts, alloc, field, chain)?;
-    let Descended { chain: end, raised } = descended;
-    drop(end);
-    let values = settle(parts, alloc, field, Side::Columns, raised)?;
+    let Descended { left, raised } = descended;
+    drop(left);
+    let start = Chain::from_terms(alloc, field, &raised)?;
+    let values = settle(parts, alloc, field, Side::Columns, &start)?;
     Ok(values)
 }
 
@@ -57,9 +57,10 @@ pub fn transposed_projection<const P: u16>(
     chain: &Chain<P>,
 ) -> Result<Chain<P>, AllocError>
     requires state { IsState P parts.now.complex parts.now.boundaries.items parts.now.cofaces.items parts.now.standing.items parts.now.places.items parts.now.steps.items }
-    ensures { IfOk result (λ c. (g : ℕ) → g < length parts.now.complex.boundaries → Same P (coefficient c g) (total (length parts.now.complex.boundaries) (λ h. coefficient chain.now h * project_of P parts.now.complex (steps_of parts.now.steps.items) (single g) h))) }
+    ensures value { IfOk result (λ c. (g : ℕ) → g < length parts.now.complex.boundaries → Same P (coefficient c g) (total (length parts.now.complex.boundaries) (λ h. coefficient chain.now h * project_of P parts.now.complex (steps_of parts.now.steps.items) (single g) h))) }
+    ensures past { IfOk result (λ c. (g : ℕ) → length parts.now.complex.boundaries ≤ g → Same P (coefficient c g) (coefficient chain.now g)) }
 {
     let start = left_terms(&parts.places, alloc, field, chain)?;
-    let values = settle(parts, alloc, field, Side::Rows, start)?;
+    let values = settle(parts, alloc, field, Side::Rows, &start)?;
     Ok(values)
 }

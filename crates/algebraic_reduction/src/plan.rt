@@ -2,12 +2,14 @@
 use crate::generators::Generators;
 use chains::Chain;
 use std::alloc::{AllocError, Global};
+use std::collections::VecDeque;
 
-/// How many generators in no step have a boundary that names a generator, and those that were named by one alone.
+/// How many generators in no step have a boundary that names a generator, and a queue of those that have come to be named by
+/// one alone.
 #[derive(Drop)]
 pub struct Plan {
     counts: Vec<u32>,
-    free: Vec<u32>,
+    free: VecDeque<u32>,
 }
 
 impl Plan {
@@ -19,11 +21,12 @@ impl Plan {
         }
         Ok(Plan {
             counts,
-            free: Vec::new(alloc),
+            free: VecDeque::new(alloc),
         })
     }
 
-    /// The plan of these boundaries.
+    /// The plan of these boundaries. Each generator that is named waits in the queue, in the order in which it is first named:
+    /// so free pairs are taken in one sweep over the complex, and both inclusions and projections stay short.
     pub fn of<const P: u16>(alloc: Global, boundaries: &[Chain<P>]) -> Result<Plan, AllocError> {
         let mut plan = Plan::new(alloc, boundaries.len())?;
         for boundary in boundaries {
@@ -32,9 +35,9 @@ impl Plan {
         Ok(plan)
     }
 
-    /// A generator that was named by one boundary alone.
+    /// The first of the generators that have come to be named by one boundary alone.
     pub fn next_free(&mut self) -> Option<u32> {
-        self.free.pop()
+        self.free.pop_front()
     }
 
     /// How many boundaries name a generator.
@@ -53,7 +56,7 @@ impl Plan {
             self.counts[place] = count;
         }
         if count == 1 {
-            self.free.push(generator)?;
+            self.free.push_back(generator)?;
         }
         Ok(())
     }

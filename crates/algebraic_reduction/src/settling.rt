@@ -12,6 +12,7 @@ ghost use Rattle.algebraic_reduction.specs.State.{IsState, Names};
 use crate::due::{insert_due, pop_due};
 use crate::generators::Generators;
 use crate::kept::Kept;
+use crate::numbers::{Numbers, chain_of};
 use crate::side::Side;
 use crate::stepping::{Parts, place_of};
 use chains::Chain;
@@ -110,6 +111,28 @@ fn make_due<const P: u16>(
     Ok(())
 }
 
+/// The same, where the number at the generator is not 0.
+fn make_due_unless_zero<const P: u16>(
+    parts: &Parts<P>,
+    side: Side,
+    number: u16,
+    generator: u32,
+    bound: u32,
+    due: &mut BTreeSet<u32>,
+) -> Result<(), AllocError>
+    requires inside { bound ≤ length parts.now.steps.items }
+    requires state { IsState P parts.now.complex parts.now.boundaries.items parts.now.cofaces.items parts.now.standing.items parts.now.places.items parts.now.steps.items }
+    ensures kept { OnOk result ((j : ℕ) → contains nat_cmp due.old j ≡ true → contains nat_cmp due.new j ≡ true) }
+    ensures added { OnOk result ((j : ℕ) → j < bound → generator < length parts.now.complex.boundaries → number ≢ 0 → NonZero P ((equations side parts.now.steps.items).at j generator) → contains nat_cmp due.new j ≡ true) }
+    ensures below { OnOk result ((j : ℕ) → contains nat_cmp due.new j ≡ true → (contains nat_cmp due.old j ≡ true) ⊎ (j < bound)) }
+{
+    if number == 0 {
+        return Ok(());
+    }
+    make_due(parts, side, generator, bound, due)?;
+    Ok(())
+}
+
 /// Makes those steps due in whose equation a generator of the chain stands.
 fn make_all_due<const P: u16>(
     parts: &Parts<P>,
@@ -129,14 +152,14 @@ fn make_all_due<const P: u16>(
     Ok(())
 }
 
-/// Settles the equation of one step, by the value at its pivot, and makes those before it due in which the pivot stands.
+/// Settles the equation of one step, by the value at its pivot, and makes those before it due in which the pivot stands,
+/// unless its value is 0.
 fn settle_one<const P: u16>(
     parts: &Parts<P>,
-    alloc: Global,
     field: Field<P>,
     side: Side,
     place: u32,
-    values: &mut Chain<P>,
+    values: &mut Numbers<P>,
     due: &mut BTreeSet<u32>,
 ) -> Result<(), AllocError>
     requires inside { place < length parts.now.steps.items }
@@ -144,16 +167,15 @@ fn settle_one<const P: u16>(
     ensures values { OnOk result ((g : ℕ) → Same P (coefficient values.new g) (coefficient values.old g + (if g == pivot_in side (nth parts.now.steps.items place) then minus P ((nth parts.now.steps.items place).step.inverse * product (equation_in side (nth parts.now.steps.items place)) values.old) else 0))) }
     ensures normal { OnOk result (IsNormal P (equation_in side (nth parts.now.steps.items place))) }
     ensures kept { OnOk result ((j : ℕ) → contains nat_cmp due.old j ≡ true → contains nat_cmp due.new j ≡ true) }
-    ensures added { OnOk result ((j : ℕ) → j < place → pivot_in side (nth parts.now.steps.items place) < length parts.now.complex.boundaries → NonZero P ((equations side parts.now.steps.items).at j (pivot_in side (nth parts.now.steps.items place))) → contains nat_cmp due.new j ≡ true) }
+    ensures added { OnOk result ((j : ℕ) → j < place → pivot_in side (nth parts.now.steps.items place) < length parts.now.complex.boundaries → coefficient values.new (pivot_in side (nth parts.now.steps.items place)) ≢ 0 → NonZero P ((equations side parts.now.steps.items).at j (pivot_in side (nth parts.now.steps.items place))) → contains nat_cmp due.new j ≡ true) }
     ensures below { OnOk result ((j : ℕ) → contains nat_cmp due.new j ≡ true → (contains nat_cmp due.old j ≡ true) ⊎ (j < place)) }
 {
     let step = &parts.steps[place as usize];
-    let value = equation_of(step, side).dot(field, values);
+    let value = values.product(field, equation_of(step, side));
     let change = field.neg(field.mul(step.inverse(), value));
     let pivot = pivot_of(step, side);
-    let one = Chain::from_terms(alloc, field, &[(pivot, change)])?;
-    values.add_scaled(field, 1, &one)?;
-    make_due(parts, side, pivot, place, due)?;
+    values.add(field, pivot, change)?;
+    make_due_unless_zero(parts, side, values.at(pivot), pivot, place, due)?;
     Ok(())
 }
 
@@ -163,21 +185,22 @@ pub fn settle<const P: u16>(
     alloc: Global,
     field: Field<P>,
     side: Side,
-    start: Chain<P>,
+    start: &Chain<P>,
 ) -> Result<Chain<P>, AllocError>
     requires state { IsState P parts.now.complex parts.now.boundaries.items parts.now.cofaces.items parts.now.standing.items parts.now.places.items parts.now.steps.items }
-    requires clean { (i : ℕ) → i < length parts.now.steps.items → Same P ((equations side parts.now.steps.items).at i ((equations side parts.now.steps.items).pivot i) * coefficient start ((equations side parts.now.steps.items).pivot i)) 0 }
-    ensures others { IfOk result (λ y. (g : ℕ) → ((i : ℕ) → i < length parts.now.steps.items → g ≢ (equations side parts.now.steps.items).pivot i) → Same P (coefficient y g) (coefficient start.entry g)) }
-    ensures settled { IfOk result (λ y. (i : ℕ) → i < length parts.now.steps.items → IsSettled P (length parts.now.complex.boundaries) (equations side parts.now.steps.items) (coefficient start.entry) (coefficient y) i) }
+    requires clean { (i : ℕ) → i < length parts.now.steps.items → Same P ((equations side parts.now.steps.items).at i ((equations side parts.now.steps.items).pivot i) * coefficient start.now ((equations side parts.now.steps.items).pivot i)) 0 }
+    ensures others { IfOk result (λ y. (g : ℕ) → ((i : ℕ) → i < length parts.now.steps.items → g ≢ (equations side parts.now.steps.items).pivot i) → Same P (coefficient y g) (coefficient start.now g)) }
+    ensures settled { IfOk result (λ y. (i : ℕ) → i < length parts.now.steps.items → IsSettled P (length parts.now.complex.boundaries) (equations side parts.now.steps.items) (coefficient start.now) (coefficient y) i) }
 {
     let count = parts.steps.len() as u32;
     let mut due = BTreeSet::new(alloc);
-    make_all_due(parts, side, &start, count, &mut due)?;
-    let mut values = start;
+    make_all_due(parts, side, start, count, &mut due)?;
+    let mut values = Numbers::of(alloc, field, start)?;
     let mut bound = count;
     'settling: while let Some(place) = pop_due(&mut due) {
-        settle_one(parts, alloc, field, side, place, &mut values, &mut due)?;
+        settle_one(parts, field, side, place, &mut values, &mut due)?;
         bound = place;
     }
-    Ok(values)
+    let settled = chain_of(alloc, field, values)?;
+    Ok(settled)
 }

@@ -1,4 +1,4 @@
-use Rattle.std.proofs.Common.{arith, ap, ◌∙◌, sym, refl, List, ℕ, [], ◌<◌, length, get_or}
+use Rattle.std.proofs.Common.{arith, ap, ◌∙◌, List, ℕ, [], ◌<◌, length, get_or}
 use Rattle.std.proofs.lemmas.List.{get_or_default}
 use Rattle.field_mod.proofs.Table.{two_le}
 use Rattle.algebraic_reduction.proofs.Columns.{clearing_start, clearing_more, column_push, column_same}

@@ -1,4 +1,4 @@
-use Rattle.std.proofs.Common.{arith, ap, ◌∙◌, sym, refl, List, ℕ, [], ◌∷◌, get_or-set_other}
+use Rattle.std.proofs.Common.{arith, ap, ◌∙◌, refl, List, ℕ, [], get_or-set_other}
 use Rattle.std.proofs.lemmas.List.{get_or_default}
 use Rattle.chains.specs.Terms.{coefficient}
 use Rattle.field_mod.proofs.Table.{two_le}

@@ -1,7 +1,6 @@
-use Rattle.std.proofs.Common.{arith, ap, ◌∙◌, sym, ℕ, List, ◌≡◌, ◌%◌, None, Some}
+use Rattle.std.proofs.Common.{ap, ◌∙◌, sym, ℕ, List, ◌%◌}
 use native.Mathlib.Nat.{zero-mod}
 use Rattle.chains.specs.Terms.{coefficient}
-use Rattle.algebraic_reduction.specs.State.{place_at}
 use Rattle.algebraic_reduction.proofs.MapSteps.{left_kept, others_kept, left_skipped, none_from, some_from}
 use Rattle.algebraic_reduction.proofs.descending.left_terms.Goals as goal
 use Rattle.algebraic_reduction.proofs.descending.left_terms.Goals.{then-is_none+in_ok-push, else-is_none}

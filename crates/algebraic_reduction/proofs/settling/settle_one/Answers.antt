@@ -1,4 +1,4 @@
-use Rattle.std.proofs.Common.{arith, ap, ◌∙◌, sym, ℕ, List, ◌≡◌, ◌+◌, ◌*◌, cond, eqb, subst}
+use Rattle.std.proofs.Common.{arith, ◌∙◌, ℕ, List, ◌≡◌, ◌+◌, ◌*◌, cond, eqb, subst}
 use Rattle.std.proofs.lemmas.List.{get_or_default}
 use Rattle.field_mod.specs.Modular.{Same, minus}
 use Rattle.field_mod.proofs.Table.{two_le}
@@ -13,9 +13,9 @@ returns-clause-values g c h =
     let p = c.args.parts.now in
     let two = two_le g.row.P c.args.field.listed in
     let old = c.args.values.now in
-    let new = c.add_scaled.new.self in
+    let new = c.add.new.self in
     let step : c.index-step.result.now ≡ nth p.steps.items c.args.place = c.index-step.ensures ∙ get_or_default p.steps.items c.args.place c.index-step.result.now no_step c.requires.inside in
-    let v = settled_value g.row.P c.inverse.result c.pivot_of-pivot.result c.dot-value.result c.mul.result c.neg-change.result c.equation_of.result.now old c.in_ok-one.one new (omega arith) c.dot-value.ensures.value c.mul.ensures.value c.neg-change.ensures.value c.in_ok-one.ensures.sum c.in_ok-add_scaled.ensures.sum h in
+    let v = settled_value g.row.P c.inverse.result c.pivot_of-pivot.result c.product-value.result c.mul.result c.neg-change.result c.equation_of.result.now old new (omega arith) c.product-value.ensures.value c.mul.ensures.value c.neg-change.ensures.value c.in_ok-add.ensures.sum h in
     let v1 = subst (λ (x : ℕ). Same g.row.P (coefficient new h) (coefficient old h + cond (eqb h x) (minus g.row.P (c.inverse.result * product c.equation_of.result.now old)) 0)) c.pivot_of-pivot.ensures v in
     let v2 = subst (λ (x : ℕ). Same g.row.P (coefficient new h) (coefficient old h + cond (eqb h (pivot_in c.args.side c.index-step.result.now)) (minus g.row.P (x * product c.equation_of.result.now old)) 0)) c.inverse.ensures.value v1 in
     let v3 = subst (λ (x : List (ℕ × ℕ)). Same g.row.P (coefficient new h) (coefficient old h + cond (eqb h (pivot_in c.args.side c.index-step.result.now)) (minus g.row.P (c.index-step.result.now.step.inverse * product x old)) 0)) c.equation_of.ensures.value v2 in

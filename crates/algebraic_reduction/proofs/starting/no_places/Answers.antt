@@ -1,4 +1,4 @@
-use Rattle.std.proofs.Common.{arith, ap, ◌∙◌, sym, ◌≡◌, ℕ, length, length-append, List, Option}
+use Rattle.std.proofs.Common.{arith, ap, length, length-append}
 use Rattle.algebraic_reduction.proofs.Start.{places_more}
 use Rattle.algebraic_reduction.proofs.starting.no_places.Goals as goal
 

@@ -1,6 +1,4 @@
-use Rattle.std.proofs.Common.{arith, ap, ◌∙◌, sym, ◌≡◌, ℕ, length, List, [], subst}
-use Rattle.algebraic_reduction.specs.Kept.{KeptStep}
-use Rattle.algebraic_reduction.specs.State.{IsState}
+use Rattle.std.proofs.Common.{arith, ap, ◌∙◌, sym, ℕ, length, List}
 use Rattle.algebraic_reduction.proofs.Start.{state_start}
 use Rattle.algebraic_reduction.proofs.starting.start_parts.Goals as goal
 

@@ -1,4 +1,4 @@
-use Rattle.std.proofs.Common.{arith, ap, ◌∙◌, sym, refl, List, ℕ, [], ◌∷◌, ◌<◌, ◌≡◌, ◌+◌, ◌*◌, ◌%◌, length, get_or, set, subst, length-set}
+use Rattle.std.proofs.Common.{arith, ap, ◌∙◌, sym, List, ℕ, [], ◌<◌, ◌≡◌, ◌+◌, ◌*◌, ◌%◌, length, get_or, set, subst, length-set}
 use Rattle.std.proofs.lemmas.List.{get_or_default}
 use Rattle.chains.specs.Terms.{coefficient}
 use Rattle.chains.specs.ChainComplex.{incidence}

@@ -1,4 +1,4 @@
-use Rattle.std.proofs.Common.{arith, ap, ◌∙◌, sym, refl, List, ℕ, [], ◌∷◌, ◌<◌, ◌≡◌, length, subst}
+use Rattle.std.proofs.Common.{arith, ap, ◌∙◌, sym, List, ℕ}
 use Rattle.chains.specs.Terms.{coefficient}
 use Rattle.field_mod.proofs.Table.{two_le}
 use Rattle.algebraic_reduction.proofs.OneMore.{state_short, state_apart, state_after, one_more}

@@ -1,4 +1,4 @@
-use Rattle.std.proofs.Common.{arith, ap, ◌∙◌, sym, ◌<◌, ◌≡◌, ℕ, length, Some}
+use Rattle.std.proofs.Common.{arith, ap, ◌∙◌, sym, ◌<◌, ℕ, length, Some}
 use Rattle.std.specs.Prelude.{slice_get}
 use Rattle.std.proofs.lemmas.List.{get_or_default}
 use Rattle.algebraic_reduction.specs.Kept.{KeptStep, no_step}

@@ -1,4 +1,4 @@
-use Rattle.std.proofs.Common.{arith, ap, ◌∙◌, sym, ◌<◌, ◌≡◌, ℕ, length, subst}
+use Rattle.std.proofs.Common.{arith, ap, ◌∙◌, sym, length, subst}
 use Rattle.field_mod.proofs.Table.{two_le}
 use Rattle.algebraic_reduction.specs.Kept.{steps_of}
 use Rattle.algebraic_reduction.specs.Laws.{IsReduction}
