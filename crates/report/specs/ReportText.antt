@@ -1,8 +1,12 @@
 -- The texts of reports.
-use Rattle.std.specs.Prelude.{ℕ, ◌+◌, ◌==◌, if◌then◌else◌, List, [], ◌∷◌, ◌++◌, codes, decimal}
-use Rattle.report.specs.declared.pair.Report.{Report}
-use Rattle.report.specs.declared.pair.Report.TheVariants.{Pair}
-use Rattle.report.specs.declared.pair.Shown.{Shown}
+use Rattle.std.specs.Prelude.{ℕ, ◌+◌, ◌==◌, ◌≤◌, if◌then◌else◌, List, [], ◌∷◌, ◌++◌, length, get_or, codes, decimal}
+use Rattle.std.specs.List.{flat_map}
+use Rattle.elem_cubes.specs.Cells.{Factor, lower_of, upper_of}
+use Rattle.grid_files.specs.declared.fault.TheConstants.{CUBES}
+use Rattle.grid_files.specs.Written.{corner_text, written}
+use Rattle.report.specs.declared.reports.Report.{Report}
+use Rattle.report.specs.declared.reports.Report.TheVariants.{Pair, Chain, Set}
+use Rattle.report.specs.declared.reports.Shown.{Shown}
 
 -- the vector space of that dimension over the field of p elements: 0, Z_p or Z_p^d
 abbrev pub group_text : ℕ → ℕ → List ℕ
@@ -14,15 +18,60 @@ group_text p d = if d == 0 then codes "0"
 abbrev pub group_line : ℕ → ℕ → ℕ → List ℕ
 group_line p k d = codes "H_" ++ decimal k ++ codes " = " ++ group_text p d ++ codes "\n"
 
--- the lines on the groups of these dimensions, of degree k and up
-abbrev pub group_lines_from : ℕ → ℕ → List ℕ → List ℕ
-group_lines_from p k [] = []
-group_lines_from p k (d ∷ ds) = group_line p k d ++ group_lines_from p (k + 1) ds
+-- a cell by its lower and its upper corner, also where it is full
+abbrev pub cell_text : List Factor → List ℕ
+cell_text q = codes "[" ++ corner_text (lower_of q) ++ corner_text (upper_of q) ++ codes "]"
 
--- the lines on the groups, of degree 0 and up
-abbrev pub group_lines : ℕ → List ℕ → List ℕ
-group_lines p ds = group_lines_from p 0 ds
+-- a generator of a chain file by its number
+abbrev pub number_text : ℕ → List ℕ
+number_text g = codes "#" ++ decimal g
+
+-- a coefficient and a generator that is written so
+abbrev pub term_text : {G : Type 0} → (G → List ℕ) → G × ℕ → List ℕ
+term_text write (g, c) = decimal c ++ codes " * " ++ write g
+
+-- a chain by its terms
+abbrev pub chain_text : {G : Type 0} → (G → List ℕ) → List (G × ℕ) → List ℕ
+chain_text write [] = []
+chain_text write (t ∷ ts) = term_text write t ++ flat_map (λ t. codes " + " ++ term_text write t) ts
+
+-- the line on the cycle of number j in degree k
+abbrev pub cycle_line : {G : Type 0} → (G → List ℕ) → ℕ → ℕ → List (G × ℕ) → List ℕ
+cycle_line write k j z = codes "z_" ++ decimal k ++ codes "_" ++ decimal j ++ codes " = " ++ chain_text write z ++ codes "\n"
+
+-- the lines on these cycles of degree k, which are numbered from j
+abbrev pub cycle_lines_from : {G : Type 0} → (G → List ℕ) → ℕ → ℕ → List (List (G × ℕ)) → List ℕ
+cycle_lines_from write k j [] = []
+cycle_lines_from write k j (z ∷ zs) = cycle_line write k j z ++ cycle_lines_from write k (j + 1) zs
+
+-- the lines on the cycles of degree k, which are numbered from 1
+abbrev pub cycle_lines : {G : Type 0} → (G → List ℕ) → ℕ → List (List (G × ℕ)) → List ℕ
+cycle_lines write k zs = cycle_lines_from write k 1 zs
+
+-- the lines of degree k: the group of dimension d, and the cycles
+abbrev pub degree_lines : {G : Type 0} → (G → List ℕ) → ℕ → ℕ → ℕ → List (List (G × ℕ)) → List ℕ
+degree_lines write p k d zs = group_line p k d ++ cycle_lines write k zs
+
+-- the lines of degree k and up, for these dimensions and the cycles of all degrees from 0
+abbrev pub group_lines_from : {G : Type 0} → (G → List ℕ) → ℕ → ℕ → List ℕ → List (List (List (G × ℕ))) → List ℕ
+group_lines_from write p k [] cycles = []
+group_lines_from write p k (d ∷ ds) cycles = degree_lines write p k d (get_or cycles k []) ++ group_lines_from write p (k + 1) ds cycles
+
+-- the lines of degree 0 and up
+abbrev pub group_lines : {G : Type 0} → (G → List ℕ) → ℕ → List ℕ → List (List (List (G × ℕ))) → List ℕ
+group_lines write p ds cycles = group_lines_from write p 0 ds cycles
+
+-- the cycles that are printed
+abbrev pub shown_cycles : {G : Type 0} → Shown → List (List (List (G × ℕ))) → List (List (List (G × ℕ)))
+shown_cycles shown cycles = if shown.cycles then cycles else []
 
 -- the text of a report
 abbrev pub report_text : Report → Shown → List ℕ
-report_text (Pair pair) shown = group_lines shown.modulus pair.dimensions
+report_text (Pair pair) shown = group_lines cell_text shown.modulus pair.dimensions (shown_cycles shown pair.cycles)
+report_text (Chain dimensions cycles) shown = group_lines number_text shown.modulus dimensions (shown_cycles shown cycles)
+report_text (Set set) shown = written set
+
+-- a set in the report has at most as many members as a set file
+abbrev pub HasText : Report → Type 0
+HasText (Set set) = length set.cells ≤ CUBES
+HasText report = Unit {0}

@@ -1,11 +1,10 @@
 //! Why a run did not print its report, and the line that it prints then.
-ghost use Rattle.std.specs.Prelude.{◌≡◌, ◌++◌, Some, IfOk};
-ghost use Rattle.report.specs.FaultText.{fault_text, limit_name};
+ghost use Rattle.std.specs.Prelude.{◌≡◌, ◌++◌, IfOk, OnOk, decimal};
+ghost use Rattle.report.specs.FaultText.{fault_text};
 
-use crate::Name;
-use itoa::Buffer;
+use crate::{Cause, LimitName, Name};
+use itoa::{Buffer, Integer};
 use std::alloc::{AllocError as NoMemory, Global};
-use std::fmt;
 use thiserror::Error;
 
 /// Why a run did not print its report. The line that a run prints for it is `fault_text`.
@@ -16,48 +15,55 @@ pub enum Fault {
     NoTool,
     /// The words after the tool's name are not of a form of that tool.
     #[error("words: not a form of {tool}")]
-    NotAForm { tool: Name },
+    NotAForm {
+        tool: Name,
+    },
     /// A read of a file failed.
     #[error("cannot read {name}")]
-    CannotRead { name: Name },
+    CannotRead {
+        name: Name,
+    },
     /// The text of a file is not a list of full cubes.
     #[error("{name}: not a list of full cubes")]
-    NotCubes { name: Name },
+    NotCubes {
+        name: Name,
+    },
+    /// The text of a file is refused at a place, counted in bytes from 0.
+    #[error("{name}: byte {place}: {cause}")]
+    BadText {
+        name: Name,
+        place: u64,
+        cause: Cause,
+    },
+    /// In a chain file the boundary of the boundary of a generator of this degree has a coefficient that is not 0 at
+    /// another generator. Generators are numbered in their degrees from 1.
+    #[error("{name}: dimension {degree}: # {generator}: boundary of boundary has {value} * {at}")]
+    NotComplex {
+        name: Name,
+        degree: u8,
+        generator: u32,
+        value: u16,
+        at: u32,
+    },
+    /// The cells of a file have another embedding dimension than those of the files before it.
+    #[error("{name}: dimension {found}, but {before} before")]
+    Dimension {
+        name: Name,
+        found: u8,
+        before: u8,
+    },
     /// A count goes past its limit, which is this number.
     #[error("limit: {count}: {number}")]
-    Limit { count: LimitName, number: u64 },
+    Limit {
+        count: LimitName,
+        number: u64,
+    },
     /// A write to standard output failed.
     #[error("cannot write standard output")]
     CannotWriteOut,
     /// Memory ran out.
     #[error("out of memory")]
     OutOfMemory,
-}
-
-/// A count that has a limit.
-#[derive(Clone, Copy, Debug, PartialEq, Eq)]
-pub enum LimitName {
-    /// The bytes of one input file.
-    FileBytes,
-}
-
-impl LimitName {
-    /// The count's name as it is printed.
-    pub fn as_str(self) -> &'static str
-        ensures { result.now ≡ limit_name self }
-    {
-        match self {
-            LimitName::FileBytes => "file-bytes",
-        }
-    }
-}
-
-impl fmt::Display for LimitName {
-    ghost output = { λ l. Some (limit_name l) };
-
-    fn fmt<W: fmt::Write>(&self, f: &mut fmt::Formatter<W>) -> fmt::Result {
-        f.write_str(self.as_str())
-    }
 }
 
 /// The line that is printed for a fault, with its line feed.
@@ -68,12 +74,22 @@ pub fn fault_text(alloc: Global, fault: &Fault) -> Result<Vec<u8>, NoMemory>
         Fault::NoTool => Vec::from_slice(alloc, b"error: words: no tool of that name\n"),
         Fault::NotAForm { tool } => framed(alloc, b"error: words: not a form of ", tool, b"\n"),
         Fault::CannotRead { name } => framed(alloc, b"error: cannot read ", name, b"\n"),
-        Fault::NotCubes { name } => framed(
-            alloc,
-            b"error: ",
+        Fault::NotCubes { name } => {
+            framed(alloc, b"error: ", name, b": not a list of full cubes\n")
+        }
+        Fault::BadText { name, place, cause } => bad_text(alloc, name, *place, *cause),
+        Fault::NotComplex {
             name,
-            b": not a list of full cubes\n",
-        ),
+            degree,
+            generator,
+            value,
+            at,
+        } => not_complex_text(alloc, name, *degree, *generator, *value, *at),
+        Fault::Dimension {
+            name,
+            found,
+            before,
+        } => dimension_text(alloc, name, *found, *before),
         Fault::Limit { count, number } => limit_text(alloc, *count, *number),
         Fault::CannotWriteOut => Vec::from_slice(alloc, b"error: cannot write standard output\n"),
         Fault::OutOfMemory => Vec::from_slice(alloc, b"error: out of memory\n"),
@@ -90,66 +106,65 @@ fn framed(alloc: Global, before: &[u8], name: &Name, after: &[u8]) -> Result<Vec
     Ok(line)
 }
 
-// The line on a limit.
-fn limit_text(alloc: Global, count: LimitName, number: u64) -> Result<Vec<u8>, NoMemory>
-    ensures { IfOk result (λ line. line.items ≡ fault_text (Fault.Limit count number)) }
+// Adds a text and a number.
+fn put_after<I: Integer>(to: &mut Vec<u8>, before: &[u8], number: I) -> Result<(), NoMemory>
+    ensures { OnOk result (to.new.items ≡ to.old.items ++ (before.now ++ I.text number)) }
 {
     let mut buffer = Buffer::new();
-    let mut line = Vec::from_slice(alloc, b"error: limit: ")?;
-    line.extend_from_slice(count.as_str().as_bytes())?;
+    to.extend_from_slice(before)?;
+    to.extend_from_slice(buffer.format(number).as_bytes())
+}
+
+// The line on a text that is refused.
+fn bad_text(alloc: Global, name: &Name, place: u64, cause: Cause) -> Result<Vec<u8>, NoMemory>
+    ensures { IfOk result (λ line. line.items ≡ fault_text (Fault.BadText name.now place cause)) }
+{
+    let mut line = framed(alloc, b"error: ", name, b": byte ")?;
+    put_after(&mut line, b"", place)?;
     line.extend_from_slice(b": ")?;
-    line.extend_from_slice(buffer.format(number).as_bytes())?;
+    line.extend_from_slice(cause.as_str().as_bytes())?;
     line.extend_from_slice(b"\n")?;
     Ok(line)
 }
 
-#[cfg(test)]
-mod tests {
-    use super::*;
-    use std::test::Fail;
+// The line on a boundary of a boundary that is not 0.
+fn not_complex_text(
+    alloc: Global,
+    name: &Name,
+    degree: u8,
+    generator: u32,
+    value: u16,
+    at: u32,
+) -> Result<Vec<u8>, NoMemory>
+    ensures { IfOk result (λ line. line.items ≡ fault_text (Fault.NotComplex name.now degree generator value at)) }
+{
+    let mut line = framed(alloc, b"error: ", name, b": dimension ")?;
+    put_after(&mut line, b"", degree)?;
+    put_after(&mut line, b": # ", generator)?;
+    put_after(&mut line, b": boundary of boundary has ", value)?;
+    put_after(&mut line, b" * ", at)?;
+    line.extend_from_slice(b"\n")?;
+    Ok(line)
+}
 
-    #[test]
-    fn each_fault_has_its_line(rt: HostRuntime) -> Result<(), Fail> {
-        let alloc = rt.alloc();
-        let rows = [
-            (Fault::NoTool, "error: words: no tool of that name\n"),
-            (
-                Fault::NotAForm {
-                    tool: Name::of(alloc, "homcubes")?,
-                },
-                "error: words: not a form of homcubes\n",
-            ),
-            (
-                Fault::CannotRead {
-                    name: Name::of(alloc, "q")?,
-                },
-                "error: cannot read q\n",
-            ),
-            (
-                Fault::NotCubes {
-                    name: Name::of(alloc, "g")?.copy(alloc)?,
-                },
-                "error: g: not a list of full cubes\n",
-            ),
-            (
-                Fault::Limit {
-                    count: LimitName::FileBytes,
-                    number: 67_108_864,
-                },
-                "error: limit: file-bytes: 67108864\n",
-            ),
-            (
-                Fault::CannotWriteOut,
-                "error: cannot write standard output\n",
-            ),
-            (Fault::OutOfMemory, "error: out of memory\n"),
-        ];
-        for (fault, line) in &rows {
-            let text = fault_text(alloc, fault)?;
-            assert_eq!(rt; text.as_slice(), line.as_bytes());
-            let shown = format!(in alloc; "error: {fault}\n")?;
-            assert_eq!(rt; shown.as_str(), *line);
-        }
-        Ok(())
-    }
+// The line on two dimensions.
+fn dimension_text(alloc: Global, name: &Name, found: u8, before: u8) -> Result<Vec<u8>, NoMemory>
+    ensures { IfOk result (λ line. line.items ≡ fault_text (Fault.Dimension name.now found before)) }
+{
+    let mut line = framed(alloc, b"error: ", name, b": dimension ")?;
+    put_after(&mut line, b"", found)?;
+    put_after(&mut line, b", but ", before)?;
+    line.extend_from_slice(b" before\n")?;
+    Ok(line)
+}
+
+// The line on a limit.
+fn limit_text(alloc: Global, count: LimitName, number: u64) -> Result<Vec<u8>, NoMemory>
+    ensures { IfOk result (λ line. line.items ≡ fault_text (Fault.Limit count number)) }
+{
+    let mut line = Vec::from_slice(alloc, b"error: limit: ")?;
+    line.extend_from_slice(count.as_str().as_bytes())?;
+    put_after(&mut line, b": ", number)?;
+    line.extend_from_slice(b"\n")?;
+    Ok(line)
 }

@@ -1,0 +1,50 @@
+//! Reports, and their texts.
+ghost use Rattle.std.specs.Prelude.{◌≡◌, ◌≤◌, IfOk};
+ghost use Rattle.report.specs.ReportText.{report_text, HasText};
+
+use crate::lines::put_groups;
+use crate::{Cycles, Dimensions, PairReport};
+use grid_files::{CubeSet, write_set};
+use std::alloc::{AllocError as NoMemory, Global};
+
+/// What a run prints where nothing is refused.
+#[derive(Drop)]
+pub enum Report {
+    /// On a pair of cubical sets.
+    Pair(PairReport),
+    /// On a chain complex: the dimensions of its groups by degree from 0, and the cycles of a basis in each degree, their
+    /// terms by ascending generator. The cycles may be left out where they are not printed.
+    Chain {
+        dimensions: Dimensions,
+        cycles: Cycles<u32>,
+    },
+    /// The result of a tool on sets.
+    Set(CubeSet),
+}
+
+/// What of a report is printed, and how.
+#[derive(Clone, Copy, Debug, PartialEq, Eq)]
+pub struct Shown {
+    /// The prime modulus of the coefficients.
+    pub modulus: u16,
+    /// Whether the cycles are printed.
+    pub cycles: bool,
+}
+
+/// The text of a report. A set in it has at most as many members as a set file.
+pub fn text(alloc: Global, report: &Report, shown: &Shown) -> Result<Vec<u8>, NoMemory>
+    requires { HasText report.now }
+    ensures { IfOk result (λ text. text.items ≡ report_text report.now shown.now) }
+{
+    let mut text = Vec::new(alloc);
+    match report {
+        Report::Pair(pair) => {
+            put_groups(&mut text, shown, pair.dimensions.as_slice(), &pair.cycles)?;
+        }
+        Report::Chain { dimensions, cycles } => {
+            put_groups(&mut text, shown, dimensions.as_slice(), cycles)?;
+        }
+        Report::Set(set) => return write_set(alloc, set),
+    }
+    Ok(text)
+}
