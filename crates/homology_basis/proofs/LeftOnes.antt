@@ -1,0 +1,84 @@
+-- Generators as chains, and chains on the generators of one degree that the steps leave.
+use Rattle.std.proofs.Common.{◌≡◌, ◌≢◌, ℕ, zero, suc, ◌+◌, ◌*◌, ◌<◌, ◌≤◌, ◌⊎◌, inl, inr, sym, ap, ◌∙◌, arith, ⊎_elim, cond, eqb, eq-eqb, ne_eqb, List, [], ◌∷◌, length, get_or, subst, true, false}
+use Rattle.std.proofs.lemmas.Bool.{cases_eq, cases_lt, le-ltb, ltb-false}
+use Rattle.field_mod.specs.Sums.{total}
+use Rattle.field_mod.specs.Modular.{Same}
+use Rattle.field_mod.proofs.Sums.{total-same, total-zero}
+use Rattle.field_mod.proofs.Modular.{same_refl, same_trans}
+use Rattle.chains.specs.Homology.{IsChain}
+use Rattle.chains.specs.ChainComplex.{ChainComplex, IsComplex, system, incidence, boundary}
+use Rattle.chains.proofs.Boundary.{total-single}
+use Rattle.chains.proofs.Numbered.{degree_above}
+use Rattle.algebraic_reduction.specs.Reduction.{single, Step, IsUnpaired, IsOnLeft}
+use Rattle.algebraic_reduction.specs.Laws.{IsLeft}
+use Rattle.algebraic_reduction.proofs.LeftBasis.{off_paired}
+use Rattle.homology_basis.proofs.Maps.{exact, single-other, total_picked_other}
+
+-- a chain on one generator that is in no step is one on what is left
+pub on_left : (p : ℕ) (ss : List Step) (g : ℕ) (y : ℕ → ℕ) → IsUnpaired ss g → ((h : ℕ) → h ≢ g → Same p (y h) 0) → IsOnLeft p ss y
+on_left p [] g y u off = tt
+on_left p (s ∷ ss) g y u off = (record { at_a = off s.a (λ e. u.0 (sym e)); at_b = off s.b (λ e. u.1 (sym e)) }, on_left p ss g y u.2 off)
+
+pub single_left : (p : ℕ) (ss : List Step) (g : ℕ) → IsUnpaired ss g → IsOnLeft p ss (single g)
+single_left p ss g u = on_left p ss g (single g) u (λ h f. exact p _ 0 (single-other g h f))
+
+-- a generator is a chain of its degree
+pub single_chain : (p : ℕ) (K : ChainComplex) (s : ℕ) → s < length K.boundaries → IsChain p (system K) (get_or K.degrees s 0) (single s)
+single_chain p K s q = record {
+  on = λ g o. exact p _ 0 (single-other s g (λ e. absurd (omega (arith, ltb-false g (length K.boundaries) o))));
+  of_degree = λ g f. exact p _ 0 (single-other s g (λ e. f (ap (λ v. get_or K.degrees v 0) e)));
+}
+
+-- the boundary of a generator has nothing past the generators
+pub incidence_off : (p : ℕ) (K : ChainComplex) → IsComplex p K → (s g : ℕ) → s < length K.boundaries → length K.boundaries ≤ g → incidence K.boundaries s g ≡ 0
+incidence_off p K c s g q l = ⊎_elim
+    (λ z. z)
+    (λ n. absurd (let d = degree_above p K c s g q n in let a = d.0 in let b = c.sizes in omega arith))
+    (cases_eq (incidence K.boundaries s g) 0)
+
+-- the boundary of a generator as a chain
+pub boundary_single : (bs : List (List (ℕ × ℕ))) (s g : ℕ) → s < length bs → boundary bs (single s) g ≡ incidence bs s g
+boundary_single bs s g q = total_picked_other (length bs) s (λ h. incidence bs h g) q
+
+not_at : (m : ℕ) (at : ℕ → ℕ) (h : ℕ) → at 0 ≢ h → ((i : ℕ) → i < m → at (suc i) ≢ h) → (i : ℕ) → i < suc m → at i ≢ h
+not_at m at h f none zero q = f
+not_at m at h f none (suc i) q = none i (omega arith)
+
+-- h stands among the first m numbers, or not
+pub found : (m : ℕ) (at : ℕ → ℕ) (h : ℕ) → ((i : ℕ) × (i < m) × (at i ≡ h)) ⊎ ((i : ℕ) → i < m → at i ≢ h)
+found zero at h = inr (λ i q. absurd (omega arith))
+found (suc m) at h = ⊎_elim
+    (λ e. inl (0, (omega arith), e))
+    (λ f. ⊎_elim
+    (λ w. inl (suc w.0, (let q = w.1 in omega arith), w.2))
+    (λ none. inr (not_at m at h f none))
+    (found m (λ i. at (suc i)) h))
+    (cases_eq (at 0) h)
+
+module _ (p k m : ℕ) (K : ChainComplex) (ss : List Step) (at : ℕ → ℕ) (lf : IsLeft K k ss m at) where
+  -- a sum over the generators that are left with one of them picked
+  pub sums_at : (x : ℕ → ℕ) (j : ℕ) → j < m → total m (λ i. x i * single (at i) (at j)) ≡ x j
+  sums_at x j q = total-same m (λ i. x i * single (at i) (at j)) (λ i. cond (eqb j i) 1 0 * x i) (λ i r. each i r) ∙ total-single m j 1 x q ∙ omega arith
+    where
+      each : (i : ℕ) → i < m → x i * single (at i) (at j) ≡ cond (eqb j i) 1 0 * x i
+      each i r = ⊎_elim
+          (λ e. rw (eq-eqb j i e, eq-eqb (at j) (at i) (ap at e)) (omega arith))
+          (λ f. let a = ne_eqb j i f in let b = ne_eqb (at j) (at i) (λ e. f (lf.once j i q r e)) in rw a (rw b (omega arith)))
+          (cases_eq j i)
+
+  -- a chain of degree k on what is left has nothing but at the generators that are left
+  gone : (y : ℕ → ℕ) → IsChain p (system K) k y → IsOnLeft p ss y → (h : ℕ) → ((i : ℕ) → i < m → at i ≢ h) → Same p (y h) 0
+  gone y c off h none = ⊎_elim
+      (λ q. ⊎_elim
+      (λ e. off_paired p ss y h off (λ u. let w = lf.all h q e u in none w.0 w.1 w.2))
+      (λ f. c.of_degree h f)
+      (cases_eq (get_or K.degrees h 0) k))
+      (λ l. c.on h (le-ltb h (length K.boundaries) l))
+      (cases_lt h (length K.boundaries))
+
+  -- and so it is their sum
+  pub expanded : (y : ℕ → ℕ) → IsChain p (system K) k y → IsOnLeft p ss y → (h : ℕ) → Same p (y h) (total m (λ i. y (at i) * single (at i) h))
+  expanded y c off h = ⊎_elim
+      (λ w. subst (λ (g : ℕ). Same p (y g) (total m (λ i. y (at i) * single (at i) g))) w.2 (exact p _ _ (sym (sums_at (λ i. y (at i)) w.0 w.1))))
+      (λ none. same_trans (gone y c off h none) (exact p 0 _ (sym (total-same m (λ i. y (at i) * single (at i) h) (λ i. 0) (λ i q. ap (λ v. y (at i) * v) (single-other (at i) h (λ e. none i q (sym e))) ∙ omega arith) ∙ total-zero m))))
+      (found m at h)

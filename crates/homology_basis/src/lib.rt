@@ -1,0 +1,15 @@
+//! Bases of homology from a log of reduced pairs: cycles, the cocycles dual to them, and the contraction.
+#![tactic(auto)]
+
+mod bases;
+mod class;
+mod classes;
+mod making;
+mod prepared;
+
+pub use bases::Basis;
+pub use making::basis;
+pub use prepared::{Prepared, prepare};
+
+#[cfg(test)]
+mod tests;
