@@ -1,0 +1,11 @@
+pub mod Deciding
+pub mod Refusing
+pub mod Following
+pub mod Values
+pub mod Spelled
+pub mod Outcomes
+pub mod Knowing
+pub mod Gathering
+pub mod Counting
+pub mod Files
+pub mod Grading

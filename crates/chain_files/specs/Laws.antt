@@ -1,0 +1,13 @@
+-- The law of chain files: modulo p, a text has exactly one value, or is refused at exactly one place with one cause.
+use Rattle.std.specs.Prelude.{◌≡◌, ◌⊎◌, ℕ, List}
+use Rattle.chain_files.specs.Content.{Content}
+use Rattle.chain_files.specs.ChainFile.{HasValue, IsRefusedAt}
+use Rattle.chain_files.specs.declared.fault.ChainCause.{ChainCause}
+
+pub record TextsHaveOneOutcome : Type 0 where
+  pub some : (p : ℕ) (text : List ℕ)
+      → ((content : Content) × HasValue p text content) ⊎ ((place : ℕ) × (cause : ChainCause) × IsRefusedAt p text place cause)
+  pub one_value : (p : ℕ) (text : List ℕ) (content other : Content) → HasValue p text content → HasValue p text other → content ≡ other
+  pub one_place : (p : ℕ) (text : List ℕ) (place other : ℕ) (cause why : ChainCause)
+      → IsRefusedAt p text place cause → IsRefusedAt p text other why → (place ≡ other) × (cause ≡ why)
+  pub never_both : (p : ℕ) (text : List ℕ) (content : Content) (place : ℕ) (cause : ChainCause) → HasValue p text content → ¬ IsRefusedAt p text place cause

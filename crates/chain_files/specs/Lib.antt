@@ -1,0 +1,11 @@
+pub mod Content
+pub mod Known
+pub mod Items
+pub mod Steps
+pub mod ChainFile
+pub mod Reading
+pub mod Laws
+pub mod Complexes
+pub mod Faults
+pub mod Readers
+pub mod Making

@@ -1,0 +1,23 @@
+//! Chain files: a chain complex by its generators and their boundaries, as a text.
+#![tactic(auto)]
+
+mod block;
+mod chain_file;
+mod due;
+mod entry;
+mod fault;
+mod gathered;
+mod laws;
+mod making;
+mod reader;
+mod text;
+mod words;
+
+pub use chain_file::{ChainFile, read_complex};
+pub use fault::{ChainCause, ChainFault, GENERATORS, MAX_DEGREE, TERMS};
+pub use laws::texts_have_one_outcome;
+
+#[cfg(test)]
+mod fault_tests;
+#[cfg(test)]
+mod tests;
