@@ -1,15 +1,26 @@
 -- What a fault rests on decides the status.
-use Rattle.std.proofs.Common.{◌≡◌, ℕ, List, Option, None, Some, Result, Ok, Err, IfErr, IfSome, refl, ◌⊎◌, inl, inr}
+use Rattle.std.proofs.Common.{◌≡◌, ℕ, List, [], append-nil, Option, None, Some, Result, Ok, Err, IfErr, IfSome, Contains, refl, sym, subst, ◌⊎◌, inl, inr}
+use Rattle.outside.specs.Causes.{Rose}
 use Rattle.outside.specs.Disk.{Disk}
+use Rattle.outside.specs.Told.{Gains}
 use Rattle.report.specs.declared.fault.Fault.{Fault}
-use Rattle.report.specs.declared.fault.Fault.TheVariants.{NoTool, NotAForm, CannotRead, NotCubes, Limit, CannotWriteOut, OutOfMemory}
+use Rattle.report.specs.declared.fault.Fault.TheVariants.{NoTool, NotAForm, CannotRead, NotCubes, BadText, NotComplex, Dimension, Limit, CannotWriteOut, OutOfMemory}
+use Rattle.report.specs.declared.limit_name.LimitName.TheVariants.{FileBytes}
+use Rattle.report.specs.declared.reports.Report.{Report}
+use Rattle.report.specs.declared.reports.Report.TheVariants.{Pair, Chain, Set}
+use Rattle.report.specs.ReportText.{report_text}
 use Rattle.chomp.specs.declared.status.Status.{Status}
 use Rattle.chomp.specs.declared.status.Status.TheVariants as statuses
 use Rattle.chomp.specs.declared.command.Command.{Command}
+use Rattle.chomp.specs.declared.command.Command.TheVariants as commands
+use Rattle.chomp.specs.declared.command.Input.{Input}
+use Rattle.chomp.specs.declared.command.Input.TheVariants as inputs
 use Rattle.chomp.specs.Statuses.{status_of}
-use Rattle.chomp.specs.Words.{command_of, names_of}
-use Rattle.chomp.specs.Refusal.{judged, reading, input_of}
-use Rattle.chomp.specs.Saying.{LoadRestsOn, RestsOn, ReadFailed, Answers}
+use Rattle.chomp.specs.Words.{command_of, names_of, shown_of}
+use Rattle.chomp.specs.Refusal.{Reading, reading, IsInputOf, within_limits, IsJudged}
+use Rattle.chomp.specs.Right.{IsRight, IsRightButForCycles}
+use Rattle.chomp.specs.Saying.{LoadRestsOn, RestsOn, IsAnswer, ReadFailed, Answers}
+use Rattle.chomp.proofs.Judging.{judged_once}
 
 by_refusal : {A : Type 0} (r : Result A Fault) (read wrote : Type 0) (fault : Fault) → r ≡ Err fault → Answers r read wrote (status_of fault)
 by_refusal r read wrote fault e = rw e (inl refl)
@@ -22,47 +33,80 @@ by_memory : {A : Type 0} (r : Result A Fault) (read wrote : Type 0) → Answers 
 by_memory (Ok input) read wrote = inr (inr (inr refl))
 by_memory (Err fault) read wrote = inr (inr refl)
 
-module _ (words : List (List ℕ)) (before now : List ℕ → ℕ) (had has : ℕ) where
-  -- a fault of the loading is one of the run
-  pub rests_on_load : (disk : Option Disk) (command : Command) → command_of words ≡ Ok command → (fault : Fault)
-      → LoadRestsOn (names_of command) (input_of command) disk before now had has fault → RestsOn words disk before now had has fault
-  rests_on_load disk command asked NoTool r = absurd r
-  rests_on_load disk command asked (NotAForm tool) r = absurd r
-  rests_on_load disk command asked (CannotRead name) r = (command, asked, r)
-  rests_on_load disk command asked (NotCubes name) r = (command, asked, r)
-  rests_on_load disk command asked (Limit count number) r = (command, asked, r)
-  rests_on_load disk command asked CannotWriteOut r = absurd r
-  rests_on_load disk command asked OutOfMemory r = tt
+module _ (words : List (List ℕ)) (before now : List ℕ → ℕ) (had has : ℕ) (wrote : Type 0) where
+  module _ (disk : Disk) (outcome : Result Input Fault) (judged : IsJudged words (reading disk) outcome) where
+    refused : (fault : Fault) → IsJudged words (reading disk) (Err fault) → Answers outcome (ReadFailed words before now) wrote (status_of fault)
+    refused fault h = by_refusal outcome (ReadFailed words before now) wrote fault (judged_once words (reading disk) outcome (Err fault) judged h)
 
-  by_words : (disk : Option Disk) (wrote : Type 0) (fault : Fault) → command_of words ≡ Err fault
-      → IfSome disk (λ disk. Answers (judged words (reading disk)) (ReadFailed words before now) wrote (status_of fault))
-  by_words None wrote fault e = tt
-  by_words (Some disk) wrote fault e = by_refusal _ _ _ fault (rw e refl)
+    failed_read : (command : Command) (name : List ℕ) → command_of words ≡ Ok command → Contains (names_of command) name → Rose (before name) (now name) → Answers outcome (ReadFailed words before now) wrote statuses.Read
+    failed_read command name asked named rose = by_read outcome (ReadFailed words before now) wrote (command, asked, name, named, rose)
 
-  by_files : (disk : Option Disk) (wrote : Type 0) (command : Command) (fault : Fault) → command_of words ≡ Ok command
-      → IfSome disk (λ disk. input_of command (reading disk) ≡ Err fault)
-      → IfSome disk (λ disk. Answers (judged words (reading disk)) (ReadFailed words before now) wrote (status_of fault))
-  by_files None wrote command fault asked e = tt
-  by_files (Some disk) wrote command fault asked e = by_refusal _ _ _ fault (rw asked e)
+    at_loading : (command : Command) → command_of words ≡ Ok command → (fault : Fault) → LoadRestsOn (names_of command) (IsInputOf command) (Some disk) before now had has fault
+        → Answers outcome (ReadFailed words before now) wrote (status_of fault)
+    at_loading command asked NoTool r = absurd r
+    at_loading command asked (NotAForm tool) r = absurd r
+    at_loading command asked (CannotRead name) r = failed_read command name asked r.0 r.1
+    at_loading command asked (NotCubes name) r = absurd r
+    at_loading command asked (BadText name place cause) r = refused (BadText name place cause) (inr (command, sym asked, inl r.1))
+    at_loading command asked (NotComplex name degree generator value at) r = absurd r
+    at_loading command asked (Dimension name found earlier) r = refused (Dimension name found earlier) (inr (command, sym asked, inl r.1))
+    at_loading command asked (Limit FileBytes number) r = refused (Limit FileBytes number) (inr (command, sym asked, inl r.1))
+    at_loading command asked (Limit count number) r = refused (Limit count number) (inr (command, sym asked, inl r))
+    at_loading command asked CannotWriteOut r = absurd r
+    at_loading command asked OutOfMemory r = by_memory outcome (ReadFailed words before now) wrote
 
-  rests_answers : (disk : Option Disk) (wrote : Type 0) (fault : Fault) → RestsOn words disk before now had has fault
-      → IfSome disk (λ disk. Answers (judged words (reading disk)) (ReadFailed words before now) wrote (status_of fault))
-  rests_answers disk wrote NoTool r = by_words disk wrote NoTool r
-  rests_answers disk wrote (NotAForm tool) r = by_words disk wrote (NotAForm tool) r
-  rests_answers None wrote (CannotRead name) r = tt
-  rests_answers (Some disk) wrote (CannotRead name) (command, asked, rests) = by_read _ _ _ (command, asked, name, rests.0, rests.1)
-  rests_answers disk wrote (NotCubes name) (command, asked, rests) = by_files disk wrote command (NotCubes name) asked rests.1
-  rests_answers disk wrote (Limit count number) (command, asked, rests) = by_files disk wrote command (Limit count number) asked rests.1
-  rests_answers disk wrote CannotWriteOut r = absurd r
-  rests_answers None wrote OutOfMemory r = tt
-  rests_answers (Some disk) wrote OutOfMemory r = by_memory _ _ _
+    rests_answers : (fault : Fault) → RestsOn words (Some disk) before now had has fault → Answers outcome (ReadFailed words before now) wrote (status_of fault)
+    rests_answers fault (inl e) = refused fault (inl (sym e))
+    rests_answers fault (inr (inl (command, asked, inl r))) = at_loading command asked fault r
+    rests_answers fault (inr (inl (command, asked, inr (input, told, limit)))) = refused fault (inr (command, sym asked, inr (input, told, sym limit)))
+    rests_answers fault (inr (inr e)) = subst (λ (f : Fault). Answers outcome (ReadFailed words before now) wrote (status_of f)) (sym e) (by_memory outcome (ReadFailed words before now) wrote)
 
-  -- so does the fault that is said in its place
-  pub said_answers : (disk : Option Disk) (wrote : Type 0) (fault said : Fault) (status : Status) → RestsOn words disk before now had has fault
-      → (said ≡ fault) ⊎ (said ≡ OutOfMemory) → status ≡ status_of said
-      → IfSome disk (λ disk. Answers (judged words (reading disk)) (ReadFailed words before now) wrote status)
-  said_answers disk wrote fault said status r (inl e) s = rw (s, e) (rests_answers disk wrote fault r)
-  said_answers disk wrote fault said status r (inr e) s = rw (s, e) (rests_answers disk wrote OutOfMemory tt)
+    said_answers : (fault said : Fault) (status : Status) → RestsOn words (Some disk) before now had has fault → (said ≡ fault) ⊎ (said ≡ OutOfMemory) → status ≡ status_of said
+        → Answers outcome (ReadFailed words before now) wrote status
+    said_answers fault said status r (inl e) s = rw (s, e) (rests_answers fault r)
+    said_answers fault said status r (inr e) s = rw (s, e) (by_memory outcome (ReadFailed words before now) wrote)
+
+  -- the status of a run that ended with a fault
+  pub refusal_answers : (disk : Option Disk) (fault said : Fault) (status : Status) → RestsOn words disk before now had has fault → (said ≡ fault) ⊎ (said ≡ OutOfMemory) → status ≡ status_of said
+      → IfSome disk (λ disk. (outcome : Result Input Fault) → IsJudged words (reading disk) outcome → Answers outcome (ReadFailed words before now) wrote status)
+  refusal_answers None fault said status r m s = tt
+  refusal_answers (Some disk) fault said status r m s = λ outcome judged. said_answers disk outcome judged fault said status r m s
+
+  -- the status of a run that ended with its writing
+  pub delivery_answers : (disk : Option Disk) (text : List ℕ) (status : Status) → IsAnswer words disk text → (status ≡ statuses.Done) ⊎ (status ≡ statuses.Write) → (status ≡ statuses.Write → wrote)
+      → IfSome disk (λ disk. (outcome : Result Input Fault) → IsJudged words (reading disk) outcome → Answers outcome (ReadFailed words before now) wrote status)
+  delivery_answers None text status answer ends rose = tt
+  delivery_answers (Some disk) text status (command, asked, input, told, report, right, is) ends rose = λ outcome judged.
+      subst (λ (o : Result Input Fault). Answers o (ReadFailed words before now) wrote status) (judged_once words (reading disk) (Ok input) outcome told judged) (ended input ends)
+    where
+      ended : (input : Input) → (status ≡ statuses.Done) ⊎ (status ≡ statuses.Write) → Answers (Ok input) (ReadFailed words before now) wrote status
+      ended input (inl e) = inl e
+      ended input (inr e) = inr (inr (inl (e, rose e)))
+
+  -- a fault of the loading, and one of a limit, is one of the run
+  pub rests_on_load : (disk : Option Disk) (command : Command) (fault : Fault) → command_of words ≡ Ok command → LoadRestsOn (names_of command) (IsInputOf command) disk before now had has fault → RestsOn words disk before now had has fault
+  rests_on_load disk command fault asked r = inr (inl (command, asked, inl r))
+
+  pub rests_on_limit : (disk : Option Disk) (command : Command) (input : Input) (fault : Fault) → command_of words ≡ Ok command → IfSome disk (λ disk. IsInputOf command (reading disk) (Ok input))
+      → (within_limits input ≡ Err fault) ⊎ (fault ≡ OutOfMemory) → RestsOn words disk before now had has fault
+  rests_on_limit disk command input fault asked told (inl e) = inr (inl (command, asked, inr (input, told, e)))
+  rests_on_limit disk command input fault asked told (inr e) = inr (inr e)
+
+-- a report that lacks only its cycles answers, where they are not printed
+pub answers : (words : List (List ℕ)) (disk : Option Disk) (command : Command) (input : Input) (report : Report) (text : List ℕ) → command_of words ≡ Ok command
+    → IfSome disk (λ disk. IsInputOf command (reading disk) (Ok input)) → within_limits input ≡ Ok input → IsRightButForCycles input report → text ≡ report_text report (shown_of command) → IsAnswer words disk text
+answers words disk command input report text asked told within right is =
+    let w = whole command input report right is in
+    (command, asked, input, judged disk told, w.0, w.1, w.2)
+  where
+    judged : (disk : Option Disk) → IfSome disk (λ disk. IsInputOf command (reading disk) (Ok input)) → IfSome disk (λ disk. IsJudged words (reading disk) (Ok input))
+    judged None told = tt
+    judged (Some held) told = (command, sym asked, (input, told, sym within))
+
+    whole : (command : Command) (input : Input) (report : Report) → IsRightButForCycles input report → text ≡ report_text report (shown_of command) → (R : Report) × IsRight input R × (text ≡ report_text R (shown_of command))
+    whole (commands.Homcubes job) (inputs.Homcubes given) (Pair pair) (cycles, right) is = (Pair (record { dimensions = pair.dimensions; cycles = cycles }), right, is)
+    whole (commands.Homcubes job) (inputs.Homcubes given) (Chain dimensions cycles) right is = absurd right
+    whole (commands.Homcubes job) (inputs.Homcubes given) (Set set) right is = absurd right
 
 abbrev pub failed : (B : Type 0) → Fault → Result B Fault
 failed B fault = Err fault
@@ -75,3 +119,13 @@ words_said B (Ok x) fault said status w s e = tt
 words_said B (Err f) fault said status w (inr m) e = inr (rw (e, m) refl)
 words_said B (Err f) fault said status (inl w) (inl s) e = let k : fault ≡ f = cc in inl (rw (e, s, k) refl)
 words_said B (Err f) fault said status (inr w) (inl s) e = let k : fault ≡ OutOfMemory = cc in inr (rw (e, s, k) refl)
+
+-- what the fault that is said rests on
+pub said_rests : (words : List (List ℕ)) (disk : Option Disk) (before now : List ℕ → ℕ) (had has : ℕ) (fault said : Fault) → RestsOn words disk before now had has fault
+    → (said ≡ fault) ⊎ (said ≡ OutOfMemory) → RestsOn words disk before now had has said
+said_rests words disk before now had has fault said r (inl e) = subst (λ (f : Fault). RestsOn words disk before now had has f) (sym e) r
+said_rests words disk before now had has fault said r (inr e) = inr (inr e)
+
+pub gains_nothing : (told : Option (List ℕ)) → Gains told told []
+gains_nothing None = tt
+gains_nothing (Some bytes) = sym (append-nil bytes)

@@ -1,3 +1,10 @@
-pub mod Steps
-pub mod Grammar
+pub mod Multiples
+pub mod Printing
+pub mod Cycles
+pub mod Counting
+pub mod RightPairs
+pub mod Judging
+pub mod Passing
 pub mod Answering
+pub mod Tables
+pub mod Reading

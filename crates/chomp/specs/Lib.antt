@@ -1,6 +1,7 @@
 pub mod Statuses
-pub mod CubeList
+pub mod Forms
 pub mod Words
 pub mod Refusal
-pub mod Degrees
+pub mod Right
+pub mod Counting
 pub mod Saying

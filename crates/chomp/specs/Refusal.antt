@@ -1,28 +1,49 @@
--- What the words and the files are judged to be: the input of a command, or the first refusal.
-use Rattle.std.specs.Prelude.{◌≡◌, ℕ, ℤ, List, Option, None, Some, Result, Ok, Err, nat_lt, if◌then◌else◌, length}
+-- What the words and the files are judged to be: the input of a command, or the first refusal. A step is a relation with its
+-- outcome, which is a value or a refusal; of the steps only the grammar of the files is none that computes.
+use Rattle.std.specs.Prelude.{◌≡◌, ◌⊎◌, ℕ, List, ◌++◌, Option, None, Some, Result, Ok, Err, nat_lt, if◌then◌else◌, length, unwrap_or}
 use Rattle.std.specs.Str.{bytes_eq}
 use Rattle.outside.specs.Disk.{Disk, content}
+use Rattle.grid_files.specs.Sets.{Members, dimensions_agree}
+use Rattle.grid_files.specs.SetFile.{HasValue, IsRefusedAt, no_members}
+use Rattle.grid_files.specs.declared.fault.Kind.{Kind}
+use Rattle.grid_files.specs.declared.fault.TextCause.{TextCause}
+use Rattle.grid_files.specs.declared.fault.TextCause.TheVariants as texts
+use Rattle.cell_complex.specs.Gathering.{cell_count}
+use Rattle.report.specs.declared.cause.Cause.{Cause}
+use Rattle.report.specs.declared.cause.Cause.TheVariants as causes
 use Rattle.report.specs.declared.fault.Fault.{Fault}
-use Rattle.report.specs.declared.fault.Fault.TheVariants.{CannotRead, NotCubes, Limit}
-use Rattle.report.specs.declared.fault.LimitName.TheVariants.{FileBytes}
+use Rattle.report.specs.declared.fault.Fault.TheVariants.{CannotRead, BadText, Dimension, Limit}
+use Rattle.report.specs.declared.limit_name.LimitName.TheVariants.{FileBytes, Cubes, Cells}
 use Rattle.chomp.specs.declared.homcubes.Job.{Job}
 use Rattle.chomp.specs.declared.homcubes.Given.{Given}
 use Rattle.chomp.specs.declared.command.Command.{Command}
 use Rattle.chomp.specs.declared.command.Command.TheVariants.{Homcubes}
 use Rattle.chomp.specs.declared.command.Input.{Input}
 use Rattle.chomp.specs.declared.command.Input.TheVariants as inputs
-use Rattle.chomp.specs.CubeList.{cubes_of}
+use Rattle.grid_files.specs.declared.fault.Kind.TheVariants.{Any}
 use Rattle.chomp.specs.Words.{command_of}
 
--- one step after the other, up to the first refusal
-infixl 10 ◌>>=◌
-abbrev pub ◌>>=◌ : {A B : Type 0} → Result A Fault → (A → Result B Fault) → Result B Fault
-(Ok x) >>= f = f x
-(Err fault) >>= f = Err fault
+-- one step after another, up to the first refusal
+abbrev pub Then : {A B : Type 0} → (Result A Fault → Type 0) → (A → Result B Fault → Type 0) → Result B Fault → Type 0
+Then {A} first next (Ok y) = (x : A) × first (Ok x) × next x (Ok y)
+Then {A} first next (Err fault) = first (Err fault) ⊎ ((x : A) × first (Ok x) × next x (Err fault))
 
--- the most bytes of one input file
+-- a step whose outcome is computed
+abbrev pub Is : {A : Type 0} → Result A Fault → Result A Fault → Type 0
+Is due outcome = outcome ≡ due
+
+-- ---- limits: the most bytes of one input file, distinct members of one set file, and cells of a pair
+
 abbrev pub file_bytes : ℕ
 file_bytes = 67108864
+
+abbrev pub most_cubes : ℕ
+most_cubes = 1048576
+
+abbrev pub most_cells : ℕ
+most_cells = 4194304
+
+-- ---- the files
 
 -- a reading of the files: for the most bytes that are allowed and a name, the bytes of the file or a refusal
 abbrev pub Reading : Type 0
@@ -36,31 +57,79 @@ reading disk limit name = if nat_lt limit (length (content disk name)) then Err 
 abbrev pub but_for : List ℕ → Reading → Reading
 but_for unread read limit name = if bytes_eq name unread then Err (CannotRead unread) else read limit name
 
--- the value of a text that has one
-abbrev pub value_of : List ℕ → Option (List (List ℤ)) → Result (List (List ℤ)) Fault
-value_of name (Some cubes) = Ok cubes
-value_of name None = Err (NotCubes name)
+-- the cause that is told with its place; there is none for too many members
+abbrev pub told_cause : TextCause → Option Cause
+told_cause texts.BadByte = Some causes.BadByte
+told_cause texts.BadNumber = Some causes.BadNumber
+told_cause texts.Unclosed = Some causes.NotClosed
+told_cause texts.MixedDimension = Some causes.MixedDimension
+told_cause texts.DimensionTooLarge = Some causes.DimensionTooLarge
+told_cause texts.CoordinateTooLarge = Some causes.CoordinateTooLarge
+told_cause texts.NotElementary = Some causes.NotElementary
+told_cause texts.NotFull = Some causes.NotFull
+told_cause texts.TooMany = None
 
--- the full cubes of a file
-abbrev pub cubes_in : List ℕ → Reading → Result (List (List ℤ)) Fault
-cubes_in name read = do
-  bytes ← read file_bytes name
-  value_of name (cubes_of bytes)
+abbrev pub at_place : List ℕ → ℕ → Option Cause → Fault
+at_place name place (Some cause) = BadText name place cause
+at_place name place None = Limit Cubes most_cubes
 
--- what the file of `homcubes` gives
-abbrev pub homcubes_input : Job → Reading → Result Given Fault
-homcubes_input job read = do
-  x ← cubes_in job.x read
-  Ok (record { x = x })
+-- the refusal of a text: its place and cause, but too many members are told as the limit that they pass
+abbrev pub text_fault : List ℕ → ℕ → TextCause → Fault
+text_fault name place cause = at_place name place (told_cause cause)
+
+-- the set of a text, by the grammar of set files
+abbrev pub IsSetOf : Kind → List ℕ → List ℕ → Result Members Fault → Type 0
+IsSetOf kind name text (Ok set) = HasValue kind text set
+IsSetOf kind name text (Err fault) = (place : ℕ) × (cause : TextCause) × IsRefusedAt kind text place cause × (fault ≡ text_fault name place cause)
+
+-- the set of a file: its reading, and then its text
+abbrev pub IsSetIn : Kind → List ℕ → Reading → Result Members Fault → Type 0
+IsSetIn kind name read = Then (Is (read file_bytes name)) (IsSetOf kind name)
+
+-- the set of a file that may be absent; then it is empty
+abbrev pub IsSubsetIn : Kind → Option (List ℕ) → Reading → Result Members Fault → Type 0
+IsSubsetIn kind None read = Is (Ok no_members)
+IsSubsetIn kind (Some name) read = IsSetIn kind name read
+
+-- ---- `homcubes`
+
+-- the file of the subset; without one no dimension is refused
+abbrev pub second_name : Job → List ℕ
+second_name job = unwrap_or job.a job.x
+
+-- the two sets, where their dimensions are one or one of them is unknown
+abbrev pub pair_of : Job → Members → Members → Result Given Fault
+pair_of job x a =
+    if dimensions_agree x.dimension a.dimension then Ok (record { x = x; a = a; modulus = job.modulus })
+    else Err (Dimension (second_name job) a.dimension x.dimension)
+
+-- the set first, then the subset, and then their dimensions
+abbrev pub IsPairIn : Job → Reading → Result Given Fault → Type 0
+IsPairIn job read = Then (IsSetIn Any job.x read) (λ x. Then (IsSubsetIn Any job.a read) (λ a. Is (pair_of job x a)))
+
+-- a pair whose sets have together no more cells than there may be
+abbrev pub within_cells : Given → Result Given Fault
+within_cells given = if nat_lt most_cells (cell_count (given.x.cells ++ given.a.cells)) then Err (Limit Cells most_cells) else Ok given
+
+-- ---- all tools
 
 -- what the files of a command give
-abbrev pub input_of : Command → Reading → Result Input Fault
-input_of (Homcubes job) read = do
-  given ← homcubes_input job read
-  Ok (inputs.Homcubes given)
+abbrev pub IsInputOf : Command → Reading → Result Input Fault → Type 0
+IsInputOf (Homcubes job) read = Then (IsPairIn job read) (λ given. Is (Ok (inputs.Homcubes given)))
 
--- the words first, then the files: the input, or the first refusal
-abbrev pub judged : List (List ℕ) → Reading → Result Input Fault
-judged words read = do
-  command ← command_of words
-  input_of command read
+abbrev pub as_input : Result Given Fault → Result Input Fault
+as_input (Ok given) = Ok (inputs.Homcubes given)
+as_input (Err fault) = Err fault
+
+-- an input that no limit refuses
+abbrev pub within_limits : Input → Result Input Fault
+within_limits (inputs.Homcubes given) = as_input (within_cells given)
+
+-- the words first, then the files, and then what they give
+abbrev pub IsJudged : List (List ℕ) → Reading → Result Input Fault → Type 0
+IsJudged words read = Then (Is (command_of words)) (λ command. Then (IsInputOf command read) (λ input. Is (within_limits input)))
+
+-- words and files are judged in exactly one way
+pub record JudgementsAreOne : Type 0 where
+  pub some : (words : List (List ℕ)) (read : Reading) → (outcome : Result Input Fault) × IsJudged words read outcome
+  pub one : (words : List (List ℕ)) (read : Reading) (outcome other : Result Input Fault) → IsJudged words read outcome → IsJudged words read other → outcome ≡ other

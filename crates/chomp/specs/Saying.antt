@@ -4,8 +4,9 @@ use Rattle.outside.specs.Causes.{Rose, more}
 use Rattle.outside.specs.Disk.{Disk}
 use Rattle.outside.specs.Told.{Gains, GainsFront}
 use Rattle.report.specs.declared.fault.Fault.{Fault}
-use Rattle.report.specs.declared.fault.Fault.TheVariants.{NoTool, NotAForm, CannotRead, NotCubes, Limit, CannotWriteOut, OutOfMemory}
-use Rattle.report.specs.declared.pair.Report.{Report}
+use Rattle.report.specs.declared.fault.Fault.TheVariants.{NoTool, NotAForm, CannotRead, NotCubes, BadText, NotComplex, Dimension, Limit, CannotWriteOut, OutOfMemory}
+use Rattle.report.specs.declared.limit_name.LimitName.TheVariants.{FileBytes}
+use Rattle.report.specs.declared.reports.Report.{Report}
 use Rattle.report.specs.ReportText.{report_text}
 use Rattle.chomp.specs.declared.status.Status.{Status}
 use Rattle.chomp.specs.declared.status.Status.TheVariants as statuses
@@ -13,8 +14,8 @@ use Rattle.chomp.specs.declared.command.Command.{Command}
 use Rattle.chomp.specs.declared.command.Input.{Input}
 use Rattle.chomp.specs.Statuses.{status_of}
 use Rattle.chomp.specs.Words.{command_of, names_of, shown_of}
-use Rattle.chomp.specs.Refusal.{Reading, reading, but_for, input_of, judged}
-use Rattle.chomp.specs.Degrees.{HasDegrees}
+use Rattle.chomp.specs.Refusal.{Reading, reading, but_for, IsInputOf, within_limits, IsJudged}
+use Rattle.chomp.specs.Right.{IsRight}
 
 -- The result is the due one, or that memory ran out.
 abbrev pub IsDue : {A : Type 0} → Result A Fault → Result A Fault → Type 0
@@ -28,31 +29,34 @@ Says old new before now line = Gains old new line ⊎ (GainsFront old new line �
 -- What a fault rests on that came up while files of these names were loaded: a failed read on the count of its file,
 -- which was to be read next; too long a file on the bytes given; want of memory on nothing; and each but the last, where the
 -- files are told, on being the first. No other fault comes up there.
-abbrev pub LoadRestsOn : {A : Type 0} → List (List ℕ) → (Reading → Result A Fault) → Option Disk
+abbrev pub LoadRestsOn : {A : Type 0} → List (List ℕ) → (Reading → Result A Fault → Type 0) → Option Disk
     → (List ℕ → ℕ) → (List ℕ → ℕ) → ℕ → ℕ → Fault → Type 0
 LoadRestsOn names load disk before now had has (CannotRead name) = Contains names name × Rose (before name) (now name)
-    × IfSome disk (λ disk. load (but_for name (reading disk)) ≡ Err (CannotRead name))
-LoadRestsOn names load disk before now had has (Limit count number) = (more had (number + 1) ≤ has)
-    × IfSome disk (λ disk. load (reading disk) ≡ Err (Limit count number))
-LoadRestsOn names load disk before now had has (NotCubes name) = Contains names name
-    × IfSome disk (λ disk. load (reading disk) ≡ Err (NotCubes name))
+    × IfSome disk (λ disk. load (but_for name (reading disk)) (Err (CannotRead name)))
+LoadRestsOn names load disk before now had has (BadText name place cause) = Contains names name
+    × IfSome disk (λ disk. load (reading disk) (Err (BadText name place cause)))
+LoadRestsOn names load disk before now had has (Dimension name found earlier) = Contains names name
+    × IfSome disk (λ disk. load (reading disk) (Err (Dimension name found earlier)))
+LoadRestsOn names load disk before now had has (Limit FileBytes number) = (more had (number + 1) ≤ has)
+    × IfSome disk (λ disk. load (reading disk) (Err (Limit FileBytes number)))
+LoadRestsOn names load disk before now had has (Limit count number) = IfSome disk (λ disk. load (reading disk) (Err (Limit count number)))
 LoadRestsOn names load disk before now had has OutOfMemory = Unit {0}
 LoadRestsOn names load disk before now had has fault = ⊥
 
--- What a fault of a run rests on: one of the words on the words, and any other on the loading of the files that they name.
+-- What a fault of a run rests on: one of the words on the words; one that came up while files were loaded as above; and a
+-- limit that what the files gave passes on that.
 abbrev pub RestsOn : List (List ℕ) → Option Disk → (List ℕ → ℕ) → (List ℕ → ℕ) → ℕ → ℕ → Fault → Type 0
-RestsOn words disk before now had has NoTool = command_of words ≡ Err NoTool
-RestsOn words disk before now had has (NotAForm tool) = command_of words ≡ Err (NotAForm tool)
-RestsOn words disk before now had has CannotWriteOut = ⊥
-RestsOn words disk before now had has OutOfMemory = Unit {0}
-RestsOn words disk before now had has fault = (command : Command) × (command_of words ≡ Ok command)
-    × LoadRestsOn (names_of command) (input_of command) disk before now had has fault
+RestsOn words disk before now had has fault = (command_of words ≡ Err fault)
+    ⊎ ((command : Command) × (command_of words ≡ Ok command) × (
+    LoadRestsOn (names_of command) (IsInputOf command) disk before now had has fault
+    ⊎ ((input : Input) × IfSome disk (λ disk. IsInputOf command (reading disk) (Ok input)) × (within_limits input ≡ Err fault))))
+    ⊎ (fault ≡ OutOfMemory)
 
--- The text is that of a report on what the words ask for and, where told, the files give.
+-- The text is that of a right report on what the words ask for and, where told, the files give.
 abbrev pub IsAnswer : List (List ℕ) → Option Disk → List ℕ → Type 0
 IsAnswer words disk text = (command : Command) × (command_of words ≡ Ok command)
-    × (report : Report) × (text ≡ report_text report (shown_of command))
-    × IfSome disk (λ disk. (input : Input) × (input_of command (reading disk) ≡ Ok input) × HasDegrees input report)
+    × (input : Input) × IfSome disk (λ disk. IsJudged words (reading disk) (Ok input))
+    × (report : Report) × IsRight input report × (text ≡ report_text report (shown_of command))
 
 -- A read of a file that the words name failed, and was counted.
 abbrev pub ReadFailed : List (List ℕ) → (List ℕ → ℕ) → (List ℕ → ℕ) → Type 0

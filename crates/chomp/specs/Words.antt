@@ -1,43 +1,75 @@
 -- What the words of the command line ask for.
-use Rattle.std.specs.Prelude.{ℕ, List, [], ◌∷◌, Result, Ok, Err, if◌then◌else◌, codes, not, ◌==◌, Bool, true, false, map, string_bytes}
-use Rattle.std.specs.Str.{bytes_eq}
-use Rattle.std.specs.declared.string.String.{String}
+use Rattle.std.specs.Prelude.{ℕ, List, [], ◌∷◌, Option, None, Some, Result, Ok, Err, decimal, false, length}
+use Rattle.std.specs.Option.{option_map, option_and_then}
+use Rattle.field_mod.specs.Moduli.{moduli}
 use Rattle.report.specs.declared.fault.Fault.{Fault}
 use Rattle.report.specs.declared.fault.Fault.TheVariants.{NoTool, NotAForm}
-use Rattle.report.specs.declared.pair.Shown.{Shown}
+use Rattle.report.specs.declared.reports.Shown.{Shown}
+use Rattle.chomp.specs.declared.tool.Tool.{Tool}
+use Rattle.chomp.specs.declared.tool.Tool.TheVariants as tools
+use Rattle.chomp.specs.declared.tool.Choice.{Choice}
+use Rattle.chomp.specs.declared.tool.Choice.TheVariants.{Modulus}
+use Rattle.chomp.specs.declared.arguments.Setting.{Setting}
 use Rattle.chomp.specs.declared.homcubes.Job.{Job}
 use Rattle.chomp.specs.declared.command.Command.{Command}
 use Rattle.chomp.specs.declared.command.Command.TheVariants.{Homcubes}
+use Rattle.chomp.specs.Forms.{Spoken, form_of, named, tool_named, form_read}
 
--- the words, as their bytes
-abbrev pub spoken : {A : Type 0} → List (String A) → List (List ℕ)
-spoken words = map string_bytes words
+-- what was found, or that the words are not of the tool's form
+abbrev pub formed : {A : Type 0} → Tool → Option A → Result A Fault
+formed tool None = Err (NotAForm (form_of tool).name)
+formed tool (Some x) = Ok x
 
--- an operand is not empty, and begins with no dash unless it is the dash itself
-abbrev pub is_operand : List ℕ → Bool
-is_operand [] = false
-is_operand (b ∷ []) = true
-is_operand (b ∷ bs) = not (b == 45)
+-- the modulus that is written so: one of the table, in decimal without sign and leading zero
+abbrev pub modulus_named : Option (List ℕ) → Option ℕ
+modulus_named None = None
+modulus_named (Some word) = named decimal moduli word
 
--- what the words after the name `homcubes` ask for: the homology of the set of one file
-abbrev pub homcubes_job : List (List ℕ) → Result Job Fault
-homcubes_job (x ∷ []) = if is_operand x then Ok (record { x = x }) else Err (NotAForm (codes "homcubes"))
-homcubes_job words = Err (NotAForm (codes "homcubes"))
+abbrev pub modulus_of : Choice → Option (List ℕ) → Option ℕ → Option ℕ
+modulus_of Modulus value others = modulus_named value
 
--- the same as a command
-abbrev pub homcubes_command : Result Job Fault → Result Command Fault
-homcubes_command (Ok job) = Ok (Homcubes job)
-homcubes_command (Err fault) = Err fault
+-- the modulus that the options set; without one it is 2
+abbrev pub modulus_in : List Setting → Option ℕ
+modulus_in [] = Some 2
+modulus_in (s ∷ ss) = modulus_of s.choice s.value (modulus_in ss)
+
+-- what the words ask of `homcubes`: the homology of a set, or of a set and a subset
+abbrev pub pair_job : List (List ℕ) → ℕ → Option Job
+pair_job (x ∷ []) modulus = Some (record { x = x; a = None; modulus = modulus })
+pair_job (x ∷ a ∷ []) modulus = Some (record { x = x; a = Some a; modulus = modulus })
+pair_job operands modulus = None
+
+abbrev pub homcubes_job : Spoken → Option Job
+homcubes_job spoken = option_and_then (pair_job spoken.operands) (modulus_in spoken.settings)
+
+abbrev pub job_of : Tool → Spoken → Option Command
+job_of tools.Homcubes spoken = option_map Homcubes (homcubes_job spoken)
+
+abbrev pub command_with : Option Tool → List (List ℕ) → Result Command Fault
+command_with None words = Err NoTool
+command_with (Some tool) words = formed tool (option_and_then (job_of tool) (form_read tool words))
 
 -- what the words ask for, or that they are of no form
 abbrev pub command_of : List (List ℕ) → Result Command Fault
 command_of [] = Err NoTool
-command_of (tool ∷ words) = if bytes_eq tool (codes "homcubes") then homcubes_command (homcubes_job words) else Err NoTool
+command_of (name ∷ words) = command_with (tool_named name) words
 
 -- the files that a command names, in the order in which they are read
+abbrev pub and_subset : Option (List ℕ) → List (List ℕ)
+and_subset None = []
+and_subset (Some a) = a ∷ []
+
 abbrev pub names_of : Command → List (List ℕ)
-names_of (Homcubes job) = job.x ∷ []
+names_of (Homcubes job) = job.x ∷ and_subset job.a
+
+abbrev pub count_in : Result Command Fault → ℕ
+count_in (Ok command) = length (names_of command)
+count_in (Err fault) = 0
+
+-- how many files the words name
+abbrev pub files_asked : List (List ℕ) → ℕ
+files_asked words = count_in (command_of words)
 
 -- how the report of a command is printed
 abbrev pub shown_of : Command → Shown
-shown_of (Homcubes job) = record { modulus = 2 }
+shown_of (Homcubes job) = record { modulus = job.modulus; cycles = false }

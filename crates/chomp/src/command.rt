@@ -1,11 +1,15 @@
 //! The three steps from words to a report, for whichever tool the words name.
-ghost use Rattle.std.specs.Prelude.{◌≡◌, ◌≤◌, ◌+◌, IfOk, IfErr, IfSome, OnErr, Err};
-ghost use Rattle.chomp.specs.Words.{spoken, command_of, names_of, shown_of};
-ghost use Rattle.chomp.specs.Refusal.{input_of, reading, file_bytes};
+ghost use Rattle.std.specs.Prelude.{◌≡◌, ◌≤◌, ◌+◌, ◌*◌, ◌⊎◌, length, Some, IfOk, IfErr, IfSome, OnOk, Ok, Err};
+ghost use Rattle.report.specs.ReportText.{HasText};
+ghost use Rattle.chomp.specs.Forms.{spoken};
+ghost use Rattle.chomp.specs.Words.{command_of, command_with, names_of, shown_of};
+ghost use Rattle.chomp.specs.Refusal.{IsInputOf, within_limits, reading, file_bytes};
 ghost use Rattle.chomp.specs.Saying.{LoadRestsOn, IsDue};
-ghost use Rattle.chomp.specs.Degrees.{HasDegrees};
+ghost use Rattle.chomp.specs.Right.{IsRightButForCycles};
 
+use crate::arguments::arguments_of;
 use crate::homcubes;
+use crate::tool::Tool;
 use outside::Files;
 use report::{Fault, Report, Shown};
 use std::alloc::Global;
@@ -13,14 +17,14 @@ use std::alloc::Global;
 /// What the words ask for.
 #[derive(Drop)]
 pub enum Command {
-    /// The homology of a set.
+    /// The homology of a set or a pair.
     Homcubes(homcubes::Job),
 }
 
 /// What the files give that the words name.
 #[derive(Drop)]
 pub enum Input {
-    /// For the homology of a set.
+    /// For the homology of a set or a pair.
     Homcubes(homcubes::Given),
 }
 
@@ -28,22 +32,31 @@ pub enum Input {
 pub fn command_of(alloc: Global, words: &[String]) -> Result<Command, Fault>
     ensures { IsDue (command_of (spoken words.now)) result }
 {
-    let Some((tool, words)) = words.split_first() else {
+    let Some((name, words)) = words.split_first() else {
         return Err(Fault::NoTool);
     };
-    match tool.as_str() {
-        "homcubes" => Ok(Command::Homcubes(homcubes::asked(alloc, words)?)),
-        _ => Err(Fault::NoTool),
+    let Some(tool) = Tool::named(name.as_str()) else {
+        return Err(Fault::NoTool);
+    };
+    command_with(alloc, tool, words)
+}
+
+// What the words after a tool's name ask for.
+fn command_with(alloc: Global, tool: Tool, words: &[String]) -> Result<Command, Fault>
+    ensures { IsDue (command_with (Some tool) (spoken words.now)) result }
+{
+    let arguments = arguments_of(alloc, tool, words)?;
+    match tool {
+        Tool::Homcubes => Ok(Command::Homcubes(homcubes::asked(alloc, &arguments)?)),
     }
 }
 
 /// What the files give that the words name.
 pub fn load<F: Files>(alloc: Global, files: &mut F, command: &Command) -> Result<Input, Fault>
-    ensures input { IfOk result (λ input. IfSome (F.holds files.old)
-        (λ disk. input_of command.now (reading disk) ≡ Ok input)) }
-    ensures fault { IfErr result (LoadRestsOn (names_of command.now) (input_of command.now) (F.holds files.old)
+    ensures input { IfOk result (λ input. IfSome (F.holds files.old) (λ disk. IsInputOf command.now (reading disk) (Ok input))) }
+    ensures fault { IfErr result (LoadRestsOn (names_of command.now) (IsInputOf command.now) (F.holds files.old)
         (F.read_faults files.old) (F.read_faults files.new) (F.given files.old) (F.given files.new)) }
-    ensures given { F.given files.new ≤ F.given files.old + (file_bytes + 1) }
+    ensures given { F.given files.new ≤ F.given files.old + length (names_of command.now) * (file_bytes + 1) }
     ensures holds { F.holds files.new ≡ F.holds files.old }
 {
     match command {
@@ -51,10 +64,12 @@ pub fn load<F: Files>(alloc: Global, files: &mut F, command: &Command) -> Result
     }
 }
 
-/// The report on what the files give.
+/// The report on what the files give, or the first limit that refuses it.
 pub fn compute(alloc: Global, input: &Input) -> Result<Report, Fault>
-    ensures report { IfOk result (HasDegrees input.now) }
-    ensures fault { OnErr result (result ≡ Err Fault.OutOfMemory) }
+    ensures report { IfOk result (IsRightButForCycles input.now) }
+    ensures text { IfOk result HasText }
+    ensures within { OnOk result (within_limits input.now ≡ Ok input.now) }
+    ensures fault { IfErr result (λ fault. (within_limits input.now ≡ Err fault) ⊎ (fault ≡ Fault.OutOfMemory)) }
 {
     match input {
         Input::Homcubes(given) => homcubes::compute(alloc, given),
@@ -67,7 +82,10 @@ impl Command {
         ensures { result ≡ shown_of self.now }
     {
         match self {
-            Command::Homcubes(_) => Shown { modulus: 2 },
+            Command::Homcubes(job) => Shown {
+                modulus: job.modulus.number(),
+                cycles: false,
+            },
         }
     }
 }

@@ -1,16 +1,23 @@
-//! The tool `homcubes`: the homology of a set of full cubes.
-ghost use Rattle.std.specs.Prelude.{◌≡◌, ◌≤◌, ◌+◌, ◌∷◌, [], IfOk, IfErr, IfSome, OnErr, Err};
-ghost use Rattle.chomp.specs.Words.{spoken, homcubes_job};
-ghost use Rattle.chomp.specs.Refusal.{homcubes_input, reading, file_bytes};
+//! The tool `homcubes`: the homology of a set or a pair.
+ghost use Rattle.std.specs.Prelude.{◌≡◌, ◌≤◌, ◌+◌, ◌*◌, ◌∷◌, ◌⊎◌, [], length, Some, IfOk, IfErr, IfSome, OnOk, Ok, Err};
+ghost use Rattle.outside.specs.Causes.{NoneFell};
+ghost use Rattle.report.specs.ReportText.{HasText};
+ghost use Rattle.chomp.specs.Words.{formed, modulus_in, homcubes_job, and_subset, names_of};
+ghost use Rattle.chomp.specs.Refusal.{IsPairIn, IsInputOf, pair_of, within_cells, reading, file_bytes};
 ghost use Rattle.chomp.specs.Saying.{LoadRestsOn, IsDue};
-ghost use Rattle.chomp.specs.Degrees.{HasDegreesOf};
+ghost use Rattle.chomp.specs.Right.{common_dimension, IsPairRightButForCycles};
 
-use crate::cubes::Cubes;
-use crate::elimination::dimensions;
-use crate::loading::load_cubes;
-use crate::words::{is_operand, not_a_form};
+use crate::arguments::{Arguments, Setting};
+use crate::command::Command;
+use crate::homology::dimensions;
+use crate::loading::{copied, load_set, load_subset};
+use crate::modulus::Modulus;
+use crate::tool::{Choice, Tool};
+use crate::words::not_a_form;
+use cell_complex::{CELLS, CellsFault};
+use grid_files::{CubeSet, Kind};
 use outside::Files;
-use report::{Dimensions, Fault, Name, PairReport, Report};
+use report::{Cycles, Dimensions, Fault, LimitName, Name, PairReport, Report};
 use std::alloc::Global;
 
 /// What the words ask of the tool.
@@ -18,48 +25,133 @@ use std::alloc::Global;
 pub struct Job {
     /// The file of the set.
     pub x: Name,
+    /// The file of the subset, where there is one.
+    pub a: Option<Name>,
+    /// The modulus of the coefficients.
+    pub modulus: Modulus,
 }
 
 /// What the files give.
 #[derive(Drop)]
 pub struct Given {
     /// The set.
-    pub x: Cubes,
+    pub x: CubeSet,
+    /// The subset.
+    pub a: CubeSet,
+    /// The modulus of the coefficients.
+    pub modulus: Modulus,
 }
 
 /// What the words after the tool's name ask for.
-pub fn asked(alloc: Global, words: &[String]) -> Result<Job, Fault>
-    ensures { IsDue (homcubes_job (spoken words.now)) result }
+pub fn asked(alloc: Global, arguments: &Arguments) -> Result<Job, Fault>
+    ensures { IsDue (formed Tool.Homcubes (homcubes_job arguments.now)) result }
 {
-    match words {
-        [x] if is_operand(x.as_str()) => match Name::of(alloc, x.as_str()) {
-            Ok(x) => Ok(Job { x }),
-            Err(_) => Err(Fault::OutOfMemory),
-        },
-        _ => Err(not_a_form(alloc, "homcubes")),
+    let Some(modulus) = modulus_in(arguments.settings()) else {
+        return Err(not_a_form(alloc, Tool::Homcubes));
+    };
+    match arguments.operands() {
+        [x] => {
+            let x = copied(alloc, x)?;
+            Ok(Job { x, a: None, modulus })
+        }
+        [x, a] => {
+            let x = copied(alloc, x)?;
+            let a = copied(alloc, a)?;
+            Ok(Job { x, a: Some(a), modulus })
+        }
+        _ => Err(not_a_form(alloc, Tool::Homcubes)),
     }
 }
 
-/// What the file gives.
-pub fn load<F: Files>(alloc: Global, files: &mut F, job: &Job) -> Result<Given, Fault>
-    ensures x { IfOk result (λ given. IfSome (F.holds files.old)
-        (λ disk. homcubes_input job.now (reading disk) ≡ Ok given)) }
-    ensures fault { IfErr result (LoadRestsOn (job.now.x ∷ []) (homcubes_input job.now) (F.holds files.old)
-        (F.read_faults files.old) (F.read_faults files.new) (F.given files.old) (F.given files.new)) }
-    ensures given { F.given files.new ≤ F.given files.old + (file_bytes + 1) }
-    ensures holds { F.holds files.new ≡ F.holds files.old }
+// The modulus that the options set; without one it is 2.
+fn modulus_in(settings: &[Setting]) -> Option<Modulus>
+    ensures { result ≡ modulus_in settings.now }
 {
-    let x = load_cubes(alloc, files, &job.x)?;
-    Ok(Given { x })
+    for setting in settings {
+        match setting.choice {
+            Choice::Modulus => {
+                return match &setting.value {
+                    Some(word) => Modulus::named(word.as_str()),
+                    None => None,
+                };
+            }
+        }
+    }
+    Some(Modulus::usual())
 }
 
-/// The report on the set: the dimensions of its homology groups modulo 2. Of the numbers nothing is claimed yet.
-pub fn compute(alloc: Global, given: &Given) -> Result<Report, Fault>
-    ensures report { IfOk result (HasDegreesOf given.now) }
-    ensures fault { OnErr result (result ≡ Err Fault.OutOfMemory) }
+/// What the files give: the set first, then the subset, and then their dimensions.
+pub fn load<F: Files>(alloc: Global, files: &mut F, job: &Job) -> Result<Given, Fault>
+    ensures given { IfOk result (λ given. IfSome (F.holds files.old) (λ disk. IsPairIn job.now (reading disk) (Ok given))) }
+    ensures fault { IfErr result (LoadRestsOn (names_of (Command.Homcubes job.now)) (IsInputOf (Command.Homcubes job.now)) (F.holds files.old)
+        (F.read_faults files.old) (F.read_faults files.new) (F.given files.old) (F.given files.new)) }
+    ensures bytes { F.given files.new ≤ F.given files.old + length (job.now.x ∷ and_subset job.now.a) * (file_bytes + 1) }
+    ensures holds { F.holds files.new ≡ F.holds files.old }
 {
-    let by_degree = dimensions(alloc, &given.x).map_err(|_| Fault::OutOfMemory)?;
-    Ok(Report::Pair(PairReport {
-        dimensions: Dimensions::of(by_degree),
-    }))
+    load_pair(alloc, files, job)
+}
+
+// The same, whatever the command.
+fn load_pair<F: Files>(alloc: Global, files: &mut F, job: &Job) -> Result<Given, Fault>
+    ensures given { IfOk result (λ given. IfSome (F.holds files.old) (λ disk. IsPairIn job.now (reading disk) (Ok given))) }
+    ensures fault { IfErr result (LoadRestsOn (job.now.x ∷ and_subset job.now.a) (IsPairIn job.now) (F.holds files.old)
+        (F.read_faults files.old) (F.read_faults files.new) (F.given files.old) (F.given files.new)) }
+    ensures bytes { F.given files.new ≤ F.given files.old + length (job.now.x ∷ and_subset job.now.a) * (file_bytes + 1) }
+    ensures holds { F.holds files.new ≡ F.holds files.old }
+{
+    let x = load_set(alloc, files, &job.x, Kind::Any)?;
+    let a = load_subset(alloc, files, &job.a, Kind::Any)?;
+    paired(alloc, job, x, a)
+}
+
+// The two sets, where their dimensions are one or one of them is unknown.
+fn paired(alloc: Global, job: &Job, x: CubeSet, a: CubeSet) -> Result<Given, Fault>
+    ensures { IsDue (pair_of job.now x a) result }
+{
+    let (before, found) = (x.dimension(), a.dimension());
+    if before == found || before == 0 || found == 0 {
+        let modulus = job.modulus;
+        return Ok(Given { x, a, modulus });
+    }
+    let name = match &job.a {
+        Some(name) => copied(alloc, name)?,
+        None => copied(alloc, &job.x)?,
+    };
+    Err(Fault::Dimension {
+        name,
+        found,
+        before,
+    })
+}
+
+// The embedding dimension of the two sets: the first that is known, or 0.
+fn common_dimension(x: &CubeSet, a: &CubeSet) -> u8
+    ensures { result ≡ common_dimension x.now a.now }
+{
+    if x.dimension() == 0 {
+        a.dimension()
+    } else {
+        x.dimension()
+    }
+}
+
+/// The report on the homology of the pair: its dimensions modulo the prime. The cycles, which are not printed, are left out.
+pub fn compute(alloc: Global, given: &Given) -> Result<Report, Fault>
+    ensures report { IfOk result (IsPairRightButForCycles given.now) }
+    ensures text { IfOk result HasText }
+    ensures within { OnOk result (within_cells given.now ≡ Ok given.now) }
+    ensures fault { IfErr result (λ fault. (within_cells given.now ≡ Err fault) ⊎ (fault ≡ Fault.OutOfMemory)) }
+{
+    let most = common_dimension(&given.x, &given.a);
+    match dimensions(alloc, given.modulus, &given.x, &given.a, most) {
+        Ok(by_degree) => Ok(Report::Pair(PairReport {
+            dimensions: Dimensions::of(by_degree),
+            cycles: Cycles::of(Vec::new(alloc)),
+        })),
+        Err(CellsFault::TooManyCells) => Err(Fault::Limit {
+            count: LimitName::Cells,
+            number: CELLS as u64,
+        }),
+        Err(CellsFault::NoMemory) => Err(Fault::OutOfMemory),
+    }
 }

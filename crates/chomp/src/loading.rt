@@ -1,31 +1,69 @@
 //! Files as values, or the first refusal.
-ghost use Rattle.std.specs.Prelude.{◌≡◌, ◌≤◌, ◌+◌, ◌^◌, ◌⊎◌, ◌∷◌, [], IfOk, IfErr, IfSome, Ok, Err};
-ghost use Rattle.outside.specs.Causes.{NoneFell};
-ghost use Rattle.chomp.specs.CubeList.{cubes_of};
-ghost use Rattle.chomp.specs.Refusal.{cubes_in, reading, value_of, file_bytes};
+ghost use Rattle.std.specs.Prelude.{◌≡◌, ◌≤◌, ◌+◌, ◌*◌, ◌^◌, ◌⊎◌, ◌∷◌, [], length, None, Some, IfOk, IfErr, IfSome, OnOk, Ok, Err};
+ghost use Rattle.outside.specs.Causes.{NoneFell, more};
+ghost use Rattle.grid_files.specs.SetFile.{no_members};
+ghost use Rattle.chomp.specs.Words.{and_subset};
+ghost use Rattle.chomp.specs.Refusal.{Is, IsSetOf, IsSetIn, IsSubsetIn, told_cause, text_fault, reading, file_bytes};
 ghost use Rattle.chomp.specs.Saying.{LoadRestsOn, IsDue};
 
-use crate::cube_list::read_cubes;
-use crate::cubes::Cubes;
+use grid_files::{CUBES, CubeSet, Kind, TextCause, TextFault, read_set};
 use outside::{Files, ReadFault, read_whole};
-use report::{Fault, LimitName, Name};
+use report::{Cause, Fault, LimitName, Name};
 use std::alloc::Global;
 
 /// The most bytes of one input file.
 pub const FILE_BYTES: u64 = 67_108_864;
 
-/// The full cubes of a file.
-pub fn load_cubes<F: Files>(alloc: Global, files: &mut F, name: &Name) -> Result<Cubes, Fault>
-    ensures cubes { IfOk result (λ cubes. IfSome (F.holds files.old)
-        (λ disk. cubes_in name.now (reading disk) ≡ Ok cubes)) }
-    ensures fault { IfErr result (LoadRestsOn (name.now ∷ []) (cubes_in name.now) (F.holds files.old)
+/// The set of a file.
+pub fn load_set<F: Files>(
+    alloc: Global,
+    files: &mut F,
+    name: &Name,
+    kind: Kind,
+) -> Result<CubeSet, Fault>
+    ensures set { IfOk result (λ set. IfSome (F.holds files.old) (λ disk. IsSetIn kind name.now (reading disk) (Ok set))) }
+    ensures fault { IfErr result (LoadRestsOn (name.now ∷ []) (IsSetIn kind name.now) (F.holds files.old)
         (F.read_faults files.old) (F.read_faults files.new) (F.given files.old) (F.given files.new)) }
     ensures given { F.given files.new ≤ F.given files.old + (file_bytes + 1) }
+    ensures counted { OnOk result (more (F.given files.old) 0 ≤ F.given files.new) }
     ensures reads { NoneFell (F.read_faults files.old) (F.read_faults files.new) }
     ensures holds { F.holds files.new ≡ F.holds files.old }
 {
     let bytes = load_bytes(alloc, files, name, FILE_BYTES)?;
-    cubes_of(alloc, name, &bytes)
+    set_of(alloc, name, &bytes, kind)
+}
+
+/// The set of a file that may be absent; then it is empty.
+pub fn load_subset<F: Files>(
+    alloc: Global,
+    files: &mut F,
+    name: &Option<Name>,
+    kind: Kind,
+) -> Result<CubeSet, Fault>
+    ensures set { IfOk result (λ set. IfSome (F.holds files.old) (λ disk. IsSubsetIn kind name.now (reading disk) (Ok set))) }
+    ensures fault { IfErr result (LoadRestsOn (and_subset name.now) (IsSubsetIn kind name.now) (F.holds files.old)
+        (F.read_faults files.old) (F.read_faults files.new) (F.given files.old) (F.given files.new)) }
+    ensures given { F.given files.new ≤ F.given files.old + length (and_subset name.now) * (file_bytes + 1) }
+    ensures counted { OnOk result (more (F.given files.old) 0 ≤ F.given files.new) }
+    ensures reads { NoneFell (F.read_faults files.old) (F.read_faults files.new) }
+    ensures holds { F.holds files.new ≡ F.holds files.old }
+{
+    match name {
+        Some(name) => load_set(alloc, files, name, kind),
+        None => no_set(alloc),
+    }
+}
+
+// The empty set of unknown dimension.
+fn no_set(alloc: Global) -> Result<CubeSet, Fault>
+    ensures set { IfOk result (λ set. set ≡ no_members) }
+    ensures fault { IfErr result (λ fault. fault ≡ Fault.OutOfMemory) }
+{
+    let Ok(set) = CubeSet::of_cells(0, Vec::new(alloc)) else {
+        return Err(Fault::OutOfMemory);
+    };
+    prove!(set.dimension() == 0);
+    Ok(set)
 }
 
 // The bytes of a file, of which so many are allowed.
@@ -38,9 +76,10 @@ fn load_bytes<F: Files>(
     requires { limit ≤ 2 ^ 30 }
     ensures bytes { IfOk result (λ bytes. IfSome (F.holds files.old)
         (λ disk. reading disk limit name.now ≡ Ok bytes.items)) }
-    ensures fault { IfErr result (LoadRestsOn (name.now ∷ []) (λ read. read limit name.now) (F.holds files.old)
+    ensures fault { IfErr result (LoadRestsOn (name.now ∷ []) (λ read. Is (read limit name.now)) (F.holds files.old)
         (F.read_faults files.old) (F.read_faults files.new) (F.given files.old) (F.given files.new)) }
     ensures given { F.given files.new ≤ F.given files.old + (limit + 1) }
+    ensures counted { OnOk result (more (F.given files.old) 0 ≤ F.given files.new) }
     ensures reads { NoneFell (F.read_faults files.old) (F.read_faults files.new) }
     ensures holds { F.holds files.new ≡ F.holds files.old }
 {
@@ -55,14 +94,48 @@ fn load_bytes<F: Files>(
     }
 }
 
-// The full cubes of a text.
-fn cubes_of(alloc: Global, name: &Name, bytes: &[u8]) -> Result<Cubes, Fault>
-    ensures { IsDue (value_of name.now (cubes_of bytes.now)) result }
+// The set of a text.
+fn set_of(alloc: Global, name: &Name, bytes: &[u8], kind: Kind) -> Result<CubeSet, Fault>
+    ensures set { IfOk result (λ set. IsSetOf kind name.now bytes.now (Ok set)) }
+    ensures fault { IfErr result (λ fault. IsSetOf kind name.now bytes.now (Err fault) ⊎ (fault ≡ Fault.OutOfMemory)) }
 {
-    match read_cubes(alloc, bytes) {
-        Ok(Some(cubes)) => Ok(Cubes::of(cubes)),
-        Ok(None) => Err(not_cubes(alloc, name)),
-        Err(_) => Err(Fault::OutOfMemory),
+    match read_set(alloc, bytes, kind) {
+        Ok(set) => Ok(set),
+        Err(TextFault::At { place, cause }) => Err(text_fault(alloc, name, place, cause)),
+        Err(TextFault::NoMemory) => Err(Fault::OutOfMemory),
+    }
+}
+
+// The refusal of a text: its place and cause, but too many members are told as the limit that they pass.
+fn text_fault(alloc: Global, name: &Name, place: u64, cause: TextCause) -> Fault
+    ensures { (result ≡ text_fault name.now place cause) ⊎ (result ≡ Fault.OutOfMemory) }
+{
+    let Some(cause) = told_cause(cause) else {
+        return Fault::Limit {
+            count: LimitName::Cubes,
+            number: u64::from(CUBES),
+        };
+    };
+    match name.copy(alloc) {
+        Ok(name) => Fault::BadText { name, place, cause },
+        Err(_) => Fault::OutOfMemory,
+    }
+}
+
+// The cause that is told with its place; there is none for too many members.
+fn told_cause(cause: TextCause) -> Option<Cause>
+    ensures { result ≡ told_cause cause }
+{
+    match cause {
+        TextCause::BadByte => Some(Cause::BadByte),
+        TextCause::BadNumber => Some(Cause::BadNumber),
+        TextCause::Unclosed => Some(Cause::NotClosed),
+        TextCause::MixedDimension => Some(Cause::MixedDimension),
+        TextCause::DimensionTooLarge => Some(Cause::DimensionTooLarge),
+        TextCause::CoordinateTooLarge => Some(Cause::CoordinateTooLarge),
+        TextCause::NotElementary => Some(Cause::NotElementary),
+        TextCause::NotFull => Some(Cause::NotFull),
+        TextCause::TooMany => None,
     }
 }
 
@@ -75,11 +148,12 @@ fn cannot_read(alloc: Global, name: &Name) -> Fault
     }
 }
 
-fn not_cubes(alloc: Global, name: &Name) -> Fault
-    ensures { (result ≡ Fault.NotCubes name.now) ⊎ (result ≡ Fault.OutOfMemory) }
+/// A name once more.
+pub fn copied(alloc: Global, name: &Name) -> Result<Name, Fault>
+    ensures { IsDue (Ok name.now) result }
 {
     match name.copy(alloc) {
-        Ok(name) => Fault::NotCubes { name },
-        Err(_) => Fault::OutOfMemory,
+        Ok(name) => Ok(name),
+        Err(_) => Err(Fault::OutOfMemory),
     }
 }

@@ -1,16 +1,17 @@
 //! The program: words and files in, a report or one line on a fault out.
 #![tactic(auto)]
 
-mod cells;
+mod arguments;
 mod command;
-mod cube_list;
-mod cubes;
 mod delivery;
-mod elimination;
 mod homcubes;
+mod homology;
+mod laws;
 mod loading;
+mod modulus;
 mod run;
 mod status;
+mod tool;
 mod words;
 
 use crate::delivery::refuse;

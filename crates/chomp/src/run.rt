@@ -1,14 +1,15 @@
 //! The top call: words, files and sinks in, a status out.
-ghost use Rattle.std.specs.Prelude.{◌≡◌, ◌≢◌, ◌≤◌, ◌+◌, ◌⊎◌, [], List, ℕ, Ok, Err, IfOk, IfErr, IfSome};
+ghost use Rattle.std.specs.Prelude.{◌≡◌, ◌≢◌, ◌≤◌, ◌+◌, ◌*◌, ◌⊎◌, [], List, ℕ, Result, Ok, Err, IfOk, IfErr, IfSome};
 ghost use Rattle.outside.specs.Told.{Gains, GainsFront};
 ghost use Rattle.outside.specs.Causes.{Rose};
 ghost use Rattle.report.specs.FaultText.{fault_text};
 ghost use Rattle.chomp.specs.Statuses.{status_of};
-ghost use Rattle.chomp.specs.Words.{spoken, command_of};
-ghost use Rattle.chomp.specs.Refusal.{judged, reading, file_bytes};
+ghost use Rattle.chomp.specs.Forms.{spoken};
+ghost use Rattle.chomp.specs.Words.{command_of, files_asked};
+ghost use Rattle.chomp.specs.Refusal.{IsJudged, reading, file_bytes};
 ghost use Rattle.chomp.specs.Saying.{Says, RestsOn, IsAnswer, ReadFailed, Answers};
 
-use crate::command::{command_of, compute, load};
+use crate::command::{Input, command_of, compute, load};
 use crate::delivery::{deliver, refuse};
 use crate::status::Status;
 use outside::{Files, Gate, Sink};
@@ -27,7 +28,7 @@ pub fn run<R: Threads, F: Files, O: Sink, E: Sink, G: Gate + Sync>(
     err: &mut E,
     _gate: &G,
 ) -> Status
-    // Done: the whole text of a report was written, and nothing else.
+    // Done: the whole text of a right report was written, and nothing else.
     ensures done { result ≡ Status.Done → (text : List ℕ) × IsAnswer (spoken words.now) (F.holds files.old) text
         × Gains (O.written out.old) (O.written out.new) text }
     ensures quiet { result ≡ Status.Done → Gains (E.written err.old) (E.written err.new) [] }
@@ -50,15 +51,15 @@ pub fn run<R: Threads, F: Files, O: Sink, E: Sink, G: Gate + Sync>(
     ensures words { IfErr (command_of (spoken words.now))
         (λ fault. (result ≡ status_of fault) ⊎ (result ≡ Status.NoMemory)) }
 
-    // The first refusal decides, or that there is none, but for a failed read or write that was counted, and want of
-    // memory.
-    ensures exact { IfSome (F.holds files.old) (λ disk. Answers (judged (spoken words.now) (reading disk))
-        (ReadFailed (spoken words.now) (F.read_faults files.old) (F.read_faults files.new))
+    // What words and files are judged to be decides, the first refusal or that there is none, but for a failed read or write that
+    // was counted, and want of memory. So what is not refused is done where no count rose, or memory was wanting.
+    ensures exact { IfSome (F.holds files.old) (λ disk. (outcome : Result Input Fault) → IsJudged (spoken words.now) (reading disk) outcome
+        → Answers outcome (ReadFailed (spoken words.now) (F.read_faults files.old) (F.read_faults files.new))
         (Rose (O.faults out.old) (O.faults out.new)) result) }
 
     // The files hold what they held, and no more bytes were read than may be.
     ensures holds { F.holds files.new ≡ F.holds files.old }
-    ensures given { F.given files.new ≤ F.given files.old + (file_bytes + 1) }
+    ensures given { F.given files.new ≤ F.given files.old + files_asked (spoken words.now) * (file_bytes + 1) }
 {
     match answer(alloc, words, files) {
         Ok(text) => deliver(&text, out, err),
@@ -74,7 +75,7 @@ fn answer<F: Files>(alloc: Global, words: &[String], files: &mut F) -> Result<Ve
     ensures words { IfErr (command_of (spoken words.now))
         (λ fault. (result ≡ Err fault) ⊎ (result ≡ Err Fault.OutOfMemory)) }
     ensures holds { F.holds files.new ≡ F.holds files.old }
-    ensures given { F.given files.new ≤ F.given files.old + (file_bytes + 1) }
+    ensures given { F.given files.new ≤ F.given files.old + files_asked (spoken words.now) * (file_bytes + 1) }
 {
     let command = command_of(alloc, words)?;
     let input = load(alloc, files, &command)?;

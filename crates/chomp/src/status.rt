@@ -31,7 +31,10 @@ impl Status {
         match fault {
             Fault::NoTool | Fault::NotAForm { .. } => Status::Words,
             Fault::CannotRead { .. } => Status::Read,
-            Fault::NotCubes { .. } => Status::Text,
+            Fault::NotCubes { .. }
+            | Fault::BadText { .. }
+            | Fault::NotComplex { .. }
+            | Fault::Dimension { .. } => Status::Text,
             Fault::Limit { .. } => Status::Limit,
             Fault::CannotWriteOut => Status::Write,
             Fault::OutOfMemory => Status::NoMemory,

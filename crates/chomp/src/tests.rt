@@ -5,22 +5,43 @@ use outside::{MemFiles, MemSink, OpenGate};
 use std::alloc::Global;
 use std::test::Fail;
 
-const FILES: [(&str, &str); 8] = [
+const FILES: [(&str, &str); 23] = [
     ("e", ""),
     ("q", "(0 0)"),
     ("-", "(0 0)"),
+    ("--mod", "(0 0)"),
     ("d", "(0 0) (1 1)"),
     (
         "ring.txt",
         "(0,0) (1,0) (2,0) (0,1) (2,1) (0,2) (1,2) (2,2)\n",
     ),
-    ("noted", "; a note\n(0 0)"),
-    ("open", "(0 0) (1"),
+    (
+        "ring",
+        "; annulus, as sampled\ndimension 2\n(0,0) (1,0) (2,0)\n(0,1)       (2,1)\n(0,2) (1,2) (2,2)\n",
+    ),
     (
         "box",
         "(0 0 0) (0 0 1) (0 0 2) (0 1 0) (0 1 1) (0 1 2) (0 2 0) (0 2 1) (0 2 2) (1 0 0) (1 0 1) (1 0 2) (1 1 0) \
          (1 1 2) (1 2 0) (1 2 1) (1 2 2) (2 0 0) (2 0 1) (2 0 2) (2 1 0) (2 1 1) (2 1 2) (2 2 0) (2 2 1) (2 2 2)",
     ),
+    ("x", "(0)"),
+    ("a", "[(0)(0)] [(1)(1)]"),
+    ("v", "[(0)(0)]"),
+    (
+        "s",
+        "[(0 0)(1 0)] [(0 0)(0 1)] [(0 1)(1 1)] [(1 0)(1 1)]",
+    ),
+    ("flat", "dimension 2"),
+    ("open", "(0 0) (1"),
+    ("long", "(0 0 0 0 0)"),
+    ("far", "(1073741825)"),
+    ("last", "(1073741824)"),
+    ("wide", "[(0 0)(2 0)]"),
+    ("mixed", "(0)(0 0)"),
+    ("stray", "(0 x)"),
+    ("zero", "dimension 0"),
+    ("second", "x)\n)"),
+    ("half", "[(0 0)(1 "),
 ];
 
 struct Row {
@@ -55,7 +76,25 @@ const NO_TOOL: Row = Row {
     ..NO_FORM
 };
 
-const ROWS: [Row; 17] = [
+const BAD_TEXT: Row = Row {
+    status: Status::Text,
+    out: "",
+    ..DONE
+};
+
+const UNREAD: Row = Row {
+    status: Status::Read,
+    out: "",
+    err: "error: cannot read q\n",
+    ..DONE
+};
+
+const NO_HOMOLOGY: Row = Row {
+    out: "H_0 = 0\nH_1 = 0\n",
+    ..DONE
+};
+
+const SETS: [Row; 12] = [
     DONE,
     Row {
         words: &["homcubes", "e"],
@@ -76,37 +115,163 @@ const ROWS: [Row; 17] = [
         ..DONE
     },
     Row {
+        words: &["homcubes", "ring"],
+        out: "H_0 = Z_2\nH_1 = Z_2\nH_2 = 0\n",
+        ..DONE
+    },
+    Row {
         words: &["homcubes", "box"],
         out: "H_0 = Z_2\nH_1 = 0\nH_2 = Z_2\nH_3 = 0\n",
         ..DONE
     },
     Row {
-        words: &["homcubes", "noted"],
-        status: Status::Text,
-        out: "",
-        err: "error: noted: not a list of full cubes\n",
+        words: &["homcubes", "last"],
+        out: "H_0 = Z_2\nH_1 = 0\n",
         ..DONE
     },
+    Row {
+        words: &["homcubes", "flat"],
+        out: "H_0 = 0\nH_1 = 0\nH_2 = 0\n",
+        ..DONE
+    },
+    Row {
+        words: &["homcubes", "--", "--mod"],
+        ..DONE
+    },
+    Row {
+        words: &["homcubes", "e", "q"],
+        out: "H_0 = 0\nH_1 = 0\nH_2 = 0\n",
+        ..DONE
+    },
+    Row {
+        words: &["homcubes", "q", "e"],
+        ..DONE
+    },
+];
+
+const PAIRS_AND_MODULI: [Row; 9] = [
+    Row {
+        words: &["homcubes", "x", "a"],
+        out: "H_0 = 0\nH_1 = Z_2\n",
+        ..DONE
+    },
+    Row {
+        words: &["homcubes", "x", "v"],
+        ..NO_HOMOLOGY
+    },
+    Row {
+        words: &["homcubes", "x", "x"],
+        ..NO_HOMOLOGY
+    },
+    Row {
+        words: &["homcubes", "q", "ring"],
+        out: "H_0 = 0\nH_1 = 0\nH_2 = 0\n",
+        ..DONE
+    },
+    Row {
+        words: &["homcubes", "ring.txt", "--mod", "47"],
+        out: "H_0 = Z_47\nH_1 = Z_47\nH_2 = 0\n",
+        ..DONE
+    },
+    Row {
+        words: &["homcubes", "--mod=3", "q"],
+        out: "H_0 = Z_3\nH_1 = 0\nH_2 = 0\n",
+        ..DONE
+    },
+    Row {
+        words: &["homcubes", "s", "--mod", "3"],
+        out: "H_0 = Z_3\nH_1 = Z_3\nH_2 = 0\n",
+        ..DONE
+    },
+    Row {
+        words: &["homcubes", "--mod", "5", "--", "q"],
+        out: "H_0 = Z_5\nH_1 = 0\nH_2 = 0\n",
+        ..DONE
+    },
+    Row {
+        words: &["homcubes", "box", "--mod=31"],
+        out: "H_0 = Z_31\nH_1 = 0\nH_2 = Z_31\nH_3 = 0\n",
+        ..DONE
+    },
+];
+
+const TEXTS: [Row; 10] = [
     Row {
         words: &["homcubes", "open"],
-        status: Status::Text,
-        out: "",
-        err: "error: open: not a list of full cubes\n",
-        ..DONE
+        err: "error: open: byte 6: not closed\n",
+        ..BAD_TEXT
     },
     Row {
+        words: &["homcubes", "long"],
+        err: "error: long: byte 0: dimension too large\n",
+        ..BAD_TEXT
+    },
+    Row {
+        words: &["homcubes", "far"],
+        err: "error: far: byte 1: coordinate too large\n",
+        ..BAD_TEXT
+    },
+    Row {
+        words: &["homcubes", "wide"],
+        err: "error: wide: byte 0: not an elementary cube\n",
+        ..BAD_TEXT
+    },
+    Row {
+        words: &["homcubes", "mixed"],
+        err: "error: mixed: byte 3: mixed dimension\n",
+        ..BAD_TEXT
+    },
+    Row {
+        words: &["homcubes", "stray"],
+        err: "error: stray: byte 3: bad byte\n",
+        ..BAD_TEXT
+    },
+    Row {
+        words: &["homcubes", "zero"],
+        err: "error: zero: byte 10: bad number\n",
+        ..BAD_TEXT
+    },
+    Row {
+        words: &["homcubes", "half"],
+        err: "error: half: byte 0: not closed\n",
+        ..BAD_TEXT
+    },
+    Row {
+        words: &["homcubes", "second", "absent"],
+        err: "error: second: byte 3: bad byte\n",
+        ..BAD_TEXT
+    },
+    Row {
+        words: &["homcubes", "q", "box"],
+        err: "error: box: dimension 3, but 2 before\n",
+        ..BAD_TEXT
+    },
+];
+
+const FAULTS: [Row; 7] = [
+    Row {
         words: &["homcubes", "absent"],
-        status: Status::Read,
-        out: "",
         err: "error: cannot read absent\n",
-        ..DONE
+        ..UNREAD
+    },
+    Row {
+        words: &["homcubes", "q", "absent"],
+        err: "error: cannot read absent\n",
+        ..UNREAD
+    },
+    Row {
+        words: &["homcubes", "absent", "second"],
+        err: "error: cannot read absent\n",
+        ..UNREAD
     },
     Row {
         failing_reads: &[2],
-        status: Status::Read,
-        out: "",
-        err: "error: cannot read q\n",
-        ..DONE
+        ..UNREAD
+    },
+    Row {
+        words: &["homcubes", "q", "q"],
+        failing_reads: &[4],
+        ..UNREAD
     },
     Row {
         failing_writes: &[2],
@@ -117,29 +282,45 @@ const ROWS: [Row; 17] = [
         ..DONE
     },
     Row {
-        words: &["homcubes"],
-        ..NO_FORM
+        failing_writes: &[1],
+        status: Status::Write,
+        out: "",
+        err: "error: cannot write standard output\n",
+        ..DONE
     },
-    Row {
-        words: &["homcubes", ""],
-        ..NO_FORM
-    },
-    Row {
-        words: &["homcubes", "-q"],
-        ..NO_FORM
-    },
-    Row {
-        words: &["homcubes", "q", "e"],
-        ..NO_FORM
-    },
-    Row {
-        words: &["cubdiff", "q", "q"],
-        ..NO_TOOL
-    },
-    Row {
-        words: &[],
-        ..NO_TOOL
-    },
+];
+
+const NO_FORMS: [&[&str]; 22] = [
+    &["homcubes"],
+    &["homcubes", ""],
+    &["homcubes", "-q"],
+    &["homcubes", "q", "e", "e"],
+    &["homcubes", "q", "--mod", "4"],
+    &["homcubes", "q", "--mod", "03"],
+    &["homcubes", "q", "--mod", "49"],
+    &["homcubes", "q", "--mod", "97"],
+    &["homcubes", "q", "--mod", "1"],
+    &["homcubes", "q", "--mod", "+2"],
+    &["homcubes", "q", "--mod", "-2"],
+    &["homcubes", "q", "--mod", "--", "2"],
+    &["homcubes", "q", "--mod"],
+    &["homcubes", "q", "--mod="],
+    &["homcubes", "q", "-mod", "2"],
+    &["homcubes", "q", "--mod", "2", "--mod", "2"],
+    &["homcubes", "q", "--mod=2", "--mod", "3"],
+    &["homcubes", "q", "--", "--mod", "2"],
+    &["homcubes", "q", "--cycles"],
+    &["homcubes", "q", "--matrix"],
+    &["homcubes", "--help"],
+    &["homcubes", "--version"],
+];
+
+const NO_TOOLS: [&[&str]; 5] = [
+    &[],
+    &["cubdiff", "q", "q"],
+    &["homchain", "q"],
+    &["--help"],
+    &["homcubesq", "q"],
 ];
 
 fn held(alloc: Global) -> Result<Vec<(String, Vec<u8>)>, Fail> {
@@ -151,25 +332,67 @@ fn held(alloc: Global) -> Result<Vec<(String, Vec<u8>)>, Fail> {
     Ok(files)
 }
 
-#[test]
-fn whole_runs_answer_as_they_should(rt: HostRuntime) -> Result<(), Fail> {
+// With ample memory each row has its status, which is never that of want of memory.
+fn answers(rt: &HostRuntime, row: &Row) -> Result<(), Fail> {
     let alloc = rt.alloc();
-    for row in &ROWS {
-        let mut words = Vec::new(alloc);
-        for word in row.words {
-            words.push(String::from_str(alloc, word)?)?;
-        }
-        let failing = Vec::from_slice(alloc, row.failing_reads)?;
-        let mut files = MemFiles::of(alloc, held(alloc)?, failing);
-        let failing = Vec::from_slice(alloc, row.failing_writes)?;
-        let mut out = MemSink::of(alloc, failing, row.most.max(1));
-        let mut err = MemSink::of(alloc, Vec::new(alloc), 1000);
-        let status = run(
-            &rt, alloc, &words, &mut files, &mut out, &mut err, &OpenGate,
-        );
-        assert!(rt; status == row.status, "{:?}", status);
-        assert_eq!(rt; out.bytes(), row.out.as_bytes());
-        assert_eq!(rt; err.bytes(), row.err.as_bytes());
+    let mut words = Vec::new(alloc);
+    for word in row.words {
+        words.push(String::from_str(alloc, word)?)?;
+    }
+    let failing = Vec::from_slice(alloc, row.failing_reads)?;
+    let mut files = MemFiles::of(alloc, held(alloc)?, failing);
+    let failing = Vec::from_slice(alloc, row.failing_writes)?;
+    let mut out = MemSink::of(alloc, failing, row.most.max(1));
+    let mut err = MemSink::of(alloc, Vec::new(alloc), 1000);
+    let status = run(
+        rt, alloc, &words, &mut files, &mut out, &mut err, &OpenGate,
+    );
+    assert!(rt; status == row.status, "{:?}", status);
+    assert!(rt; status != Status::NoMemory);
+    assert_eq!(rt; out.bytes(), row.out.as_bytes());
+    assert_eq!(rt; err.bytes(), row.err.as_bytes());
+    Ok(())
+}
+
+#[test]
+fn sets_have_their_homology(rt: HostRuntime) -> Result<(), Fail> {
+    for row in &SETS {
+        answers(&rt, row)?;
+    }
+    Ok(())
+}
+
+#[test]
+fn pairs_and_moduli_have_their_homology(rt: HostRuntime) -> Result<(), Fail> {
+    for row in &PAIRS_AND_MODULI {
+        answers(&rt, row)?;
+    }
+    Ok(())
+}
+
+#[test]
+fn texts_are_refused_at_their_places(rt: HostRuntime) -> Result<(), Fail> {
+    for row in &TEXTS {
+        answers(&rt, row)?;
+    }
+    Ok(())
+}
+
+#[test]
+fn failed_reads_and_writes_are_told(rt: HostRuntime) -> Result<(), Fail> {
+    for row in &FAULTS {
+        answers(&rt, row)?;
+    }
+    Ok(())
+}
+
+#[test]
+fn words_of_no_form_are_refused(rt: HostRuntime) -> Result<(), Fail> {
+    for words in &NO_FORMS {
+        answers(&rt, &Row { words, ..NO_FORM })?;
+    }
+    for words in &NO_TOOLS {
+        answers(&rt, &Row { words, ..NO_TOOL })?;
     }
     Ok(())
 }

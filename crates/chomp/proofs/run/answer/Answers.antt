@@ -1,10 +1,21 @@
+use Rattle.std.proofs.Common.{ap, ◌∙◌}
 use Rattle.std.proofs.lemmas.Result.{err_from_is_err_and}
-use Rattle.chomp.specs.Words.{spoken}
-use Rattle.chomp.proofs.Answering.{rests_on_load}
+use Rattle.report.specs.ReportText.{report_text}
+use Rattle.chomp.specs.Forms.{spoken}
+use Rattle.chomp.proofs.Answering.{rests_on_limit, answers}
 use Rattle.chomp.proofs.run.answer.Goals as goal
 
-pub returns-in_err-input-clause-fault : goal.returns-in_err-input-clause-fault
-returns-in_err-input-clause-fault g c =
-    let h = rests_on_load (spoken c.args.words.now) _ _ _ _ _ c.in_ok-command.command c.in_ok-command.ensures _ c.in_err-input.ensures.fault in
-    let p = err_from_is_err_and c.from_residual-in_err-input.result c.from_residual-in_err-input.ensures.1 in
+pub returns-in_err-report-clause-fault : goal.returns-in_err-report-clause-fault
+returns-in_err-report-clause-fault g c =
+    let files = c.args.files.now in
+    let later = c.load.new.files in
+    let h = rests_on_limit (spoken c.args.words.now) (g.F.Files.read_faults files) (g.F.Files.read_faults later) (g.F.Files.given files) (g.F.Files.given later) (Unit {0})
+    (g.F.Files.holds files) c.in_ok-command.command c.in_ok-input.input c.in_err-report.field-0.0 c.in_ok-command.ensures c.in_ok-input.ensures.input c.in_err-report.ensures.fault in
+    let p = err_from_is_err_and c.from_residual-in_err-report.result c.from_residual-in_err-report.ensures.1 in
     rw (p.1, p.2) h
+
+pub returns-in-Ok-clause-right : goal.returns-in-Ok-clause-right
+returns-in-Ok-clause-right g c =
+    answers (spoken c.args.words.now) (g.F.Files.holds c.args.files.now) c.in_ok-command.command c.in_ok-input.input c.in_ok-report.report c.in-Ok.text.items
+    c.in_ok-command.ensures c.in_ok-input.ensures.input c.in_ok-report.ensures.within c.in_ok-report.ensures.report
+    (c.in-Ok.ensures ∙ ap (report_text c.in_ok-report.report) c.shown.ensures)

@@ -1,0 +1,40 @@
+-- The first entry of a list with a name, and whether each entry of a list stands once, entry by entry.
+use Rattle.std.proofs.Common.{◌≡◌, ℕ, zero, suc, ◌+◌, ◌<◌, Bool, true, false, cond, ◌||◌, ◌-◌, List, [], ◌∷◌, length, get_or, drop, take, length-drop, Option, None, Some, refl, sym, ap, ◌∙◌, arith, eqb, eq-eqb, decimal, bytes_eq}
+use Rattle.std.specs.List.{list_any}
+use Rattle.std.proofs.lemmas.List.{drop_more, take_all}
+use Rattle.chomp.specs.declared.arguments.Setting.{Setting}
+use Rattle.chomp.specs.declared.tool.Choice.{Choice}
+use Rattle.chomp.specs.declared.tool.Choice.TheVariants.{Modulus}
+use Rattle.chomp.specs.Forms.{named, is_set, are_once}
+use Rattle.chomp.specs.Words.{modulus_named, modulus_of, modulus_in}
+
+first_of : (word : List ℕ) (n : ℕ) (ns : List ℕ) (b : Bool) → bytes_eq word (decimal n) ≡ b → named decimal (n ∷ ns) word ≡ cond b (Some n) (named decimal ns word)
+first_of word n ns b e = ap (λ c. cond c (Some n) (named decimal ns word)) e
+
+pub named_here : (ns : List ℕ) (i : ℕ) (word : List ℕ) → i < length ns → bytes_eq word (decimal (get_or ns i 0)) ≡ true → named decimal (drop i ns) word ≡ Some (get_or ns i 0)
+named_here ns i word l e = ap (λ ms. named decimal ms word) (drop_more ns i 0 l) ∙ first_of word (get_or ns i 0) (drop (i + 1) ns) true e
+
+pub named_next : (ns : List ℕ) (i : ℕ) (word : List ℕ) → i < length ns → bytes_eq word (decimal (get_or ns i 0)) ≡ false → named decimal (drop (i + 1) ns) word ≡ named decimal (drop i ns) word
+named_next ns i word l e = sym (ap (λ ms. named decimal ms word) (drop_more ns i 0 l) ∙ first_of word (get_or ns i 0) (drop (i + 1) ns) false e)
+
+pub listed_at : (ns : List ℕ) (i : ℕ) → i < length ns → list_any (λ q. eqb q (get_or ns i 0)) ns ≡ true
+listed_at [] i l = absurd (omega arith)
+listed_at (n ∷ ns) zero l = rw (eq-eqb n n refl) refl
+listed_at (n ∷ ns) (suc i) l = or_true (eqb n (get_or ns i 0)) (list_any (λ q. eqb q (get_or ns i 0)) ns) (listed_at ns i (omega arith))
+  where
+    or_true : (a b : Bool) → b ≡ true → (a || b) ≡ true
+    or_true true b e = refl
+    or_true false b e = e
+
+pub once_at : (ss : List Setting) (i : ℕ) (s : Setting) (b : Bool) → i < length ss → s ≡ get_or ss i s → b ≡ is_set s.choice (take (length ss - (i + 1)) (drop (i + 1) ss)) → are_once (drop i ss) ≡ cond b false (are_once (drop (i + 1) ss))
+once_at ss i s b l e t = ap are_once (drop_more ss i s l) ∙ ap (λ r. are_once (r ∷ drop (i + 1) ss)) (sym e) ∙ tested b (t ∙ ap (is_set s.choice) (take_all (length ss - (i + 1)) (drop (i + 1) ss) (omega (arith, length-drop (i + 1) ss))))
+  where
+    tested : (b : Bool) → b ≡ is_set s.choice (drop (i + 1) ss) → are_once (s ∷ drop (i + 1) ss) ≡ cond b false (are_once (drop (i + 1) ss))
+    tested true t = rw (← t) refl
+    tested false t = rw (← t) refl
+
+first_modulus : (choice : Choice) (value : Option (List ℕ)) (others : Option ℕ) → modulus_of choice value others ≡ modulus_named value
+first_modulus Modulus value others = refl
+
+pub modulus_at : (ss : List Setting) (i : ℕ) (s : Setting) → i < length ss → s ≡ get_or ss i s → modulus_in (drop i ss) ≡ modulus_named s.value
+modulus_at ss i s l e = ap modulus_in (drop_more ss i s l) ∙ ap (λ r. modulus_in (r ∷ drop (i + 1) ss)) (sym e) ∙ first_modulus s.choice s.value (modulus_in (drop (i + 1) ss))

@@ -1,0 +1,16 @@
+use Rattle.std.proofs.Common.{sym, ap, ◌∙◌, decimal}
+use Rattle.field_mod.specs.Moduli.{moduli}
+use Rattle.chomp.specs.Forms.{named}
+use Rattle.chomp.specs.Words.{modulus_named}
+use Rattle.chomp.proofs.Tables.{modulus_at}
+use Rattle.chomp.proofs.homcubes.modulus_in.Goals as goal
+
+pub returns-in-Some : goal.returns-in-Some
+returns-in-Some c =
+    c.named.ensures ∙ ap (named decimal moduli) c.as_str.ensures ∙ sym (ap modulus_named c.in-Some.is)
+    ∙ sym (modulus_at c.args.settings.now c.loop-setting.setting-index c.setting-item.result c.loop-setting-test.true c.setting-item.is) ∙ c.loop-setting.invariant
+
+pub returns-in-None : goal.returns-in-None
+returns-in-None c =
+    sym (ap modulus_named c.in-None.is)
+    ∙ sym (modulus_at c.args.settings.now c.loop-setting.setting-index c.setting-item.result c.loop-setting-test.true c.setting-item.is) ∙ c.loop-setting.invariant

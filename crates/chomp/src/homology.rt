@@ -1,0 +1,76 @@
+//! The homology of a pair of sets.
+ghost use Rattle.std.specs.Prelude.{◌≡◌, ◌<◌, ◌≤◌, ◌++◌, List, length, IfOk, OnOk, Err};
+ghost use Rattle.elem_cubes.specs.Cells.{Factor};
+ghost use Rattle.cell_complex.specs.Sorted.{IsSortedCells};
+ghost use Rattle.cell_complex.specs.Numbering.{IsComplexOf};
+ghost use Rattle.cell_complex.specs.Gathering.{cell_count};
+ghost use Rattle.chomp.specs.Right.{HasDimensions};
+ghost use Rattle.chomp.specs.Counting.{Counts};
+
+use crate::modulus::{Modulus, by_modulus};
+use algebraic_reduction::Log;
+use cell_complex::{CELLS, CellsFault, Numbered, complex_of, relative};
+use field_mod::Field;
+use grid_files::CubeSet;
+use std::alloc::{AllocError as NoMemory, Global};
+
+/// The dimensions of the homology of a pair modulo a prime of the table, by degree from 0 to `most`. `TooManyCells` comes
+/// exactly where the two sets have together more than `CELLS` cells.
+pub fn dimensions(
+    alloc: Global,
+    modulus: Modulus,
+    x: &CubeSet,
+    a: &CubeSet,
+    most: u8,
+) -> Result<Vec<u32>, CellsFault>
+    ensures right { IfOk result (λ counts. HasDimensions modulus most x.now.cells a.now.cells counts.items) }
+    ensures few { OnOk result (cell_count (x.now.cells ++ a.now.cells) ≤ CELLS) }
+    ensures many { result ≡ Err CellsFault.TooManyCells → CELLS < cell_count (x.now.cells ++ a.now.cells) }
+{
+    by_modulus!(
+        modulus.number(),
+        field => dimensions_over(alloc, field, x, a, most),
+        unreachable!()
+    )
+}
+
+// The same over a field.
+fn dimensions_over<const P: u16>(
+    alloc: Global,
+    field: Field<P>,
+    x: &CubeSet,
+    a: &CubeSet,
+    most: u8,
+) -> Result<Vec<u32>, CellsFault>
+    ensures right { IfOk result (λ counts. HasDimensions P most x.now.cells a.now.cells counts.items) }
+    ensures few { OnOk result (cell_count (x.now.cells ++ a.now.cells) ≤ CELLS) }
+    ensures many { result ≡ Err CellsFault.TooManyCells → CELLS < cell_count (x.now.cells ++ a.now.cells) }
+{
+    let cells = relative(alloc, x, a)?;
+    let complex = complex_of(alloc, field, &cells)?;
+    let log = Log::start(alloc, complex)?.reduce_all(field)?;
+    let counts = left_by_degree(alloc, &log, &cells, most)?;
+    let _steps = log.step_count();
+    Ok(counts)
+}
+
+// How many generators are in no step, by degree from 0 to `most`. The generators are the numbers of the cells.
+fn left_by_degree<const P: u16>(
+    alloc: Global,
+    log: &Log<P>,
+    cells: &Numbered,
+    most: u8,
+) -> Result<Vec<u32>, NoMemory>
+    requires { IsComplexOf P cells.now log.now.complex }
+    ensures counts { IfOk result (λ counts. Counts log.now.complex log.now.steps most (length cells.now) counts.items) }
+    ensures sorted { OnOk result (IsSortedCells cells.now) }
+{
+    let mut counts = vec![in alloc; 0u32; usize::from(most) + 1]?;
+    for number in 0..cells.len() {
+        let degree = cells.cell(number).dim() as usize;
+        if log.alive(number) && degree < counts.len() {
+            counts[degree] += 1;
+        }
+    }
+    Ok(counts)
+}
