@@ -4,7 +4,7 @@ use Rattle.outside.specs.Causes.{Rose}
 use Rattle.outside.specs.Disk.{Disk}
 use Rattle.outside.specs.Told.{Gains}
 use Rattle.report.specs.declared.fault.Fault.{Fault}
-use Rattle.report.specs.declared.fault.Fault.TheVariants.{NoTool, NotAForm, CannotRead, NotCubes, BadText, NotComplex, Dimension, Limit, CannotWriteOut, OutOfMemory}
+use Rattle.report.specs.declared.fault.Fault.TheVariants.{NoTool, NotAForm, CannotRead, BadText, NotComplex, Dimension, Limit, CannotWriteOut, OutOfMemory}
 use Rattle.report.specs.declared.limit_name.LimitName.TheVariants.{FileBytes}
 use Rattle.report.specs.declared.reports.Report.{Report}
 use Rattle.report.specs.declared.reports.Report.TheVariants.{Pair, Chain, Set}
@@ -17,7 +17,7 @@ use Rattle.chomp.specs.declared.command.Input.{Input}
 use Rattle.chomp.specs.declared.command.Input.TheVariants as inputs
 use Rattle.chomp.specs.Statuses.{status_of}
 use Rattle.chomp.specs.Words.{command_of, names_of, shown_of}
-use Rattle.chomp.specs.Refusal.{Reading, reading, IsInputOf, within_limits, IsJudged}
+use Rattle.chomp.specs.Refusal.{reading, IsInputOf, within_limits, IsJudged}
 use Rattle.chomp.specs.Right.{IsRight, IsRightButForCycles}
 use Rattle.chomp.specs.Saying.{LoadRestsOn, RestsOn, IsAnswer, ReadFailed, Answers}
 use Rattle.chomp.proofs.Judging.{judged_once}
@@ -46,7 +46,6 @@ module _ (words : List (List ℕ)) (before now : List ℕ → ℕ) (had has : �
     at_loading command asked NoTool r = absurd r
     at_loading command asked (NotAForm tool) r = absurd r
     at_loading command asked (CannotRead name) r = failed_read command name asked r.0 r.1
-    at_loading command asked (NotCubes name) r = absurd r
     at_loading command asked (BadText name place cause) r = refused (BadText name place cause) (inr (command, sym asked, inl r.1))
     at_loading command asked (NotComplex name degree generator value at) r = absurd r
     at_loading command asked (Dimension name found earlier) r = refused (Dimension name found earlier) (inr (command, sym asked, inl r.1))

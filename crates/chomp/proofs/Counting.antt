@@ -1,5 +1,5 @@
 -- One more generator is counted.
-use Rattle.std.proofs.Common.{◌≡◌, ◌≢◌, ℕ, ◌+◌, ◌<◌, ◌≤◌, ◌⊎◌, refl, sym, ap, ◌∙◌, arith, ⊎_elim, List, [], length, get_or, set, replicate, cond, eqb, eq-eqb, ne_eqb, subst, length-set, get_or-set_same, get_or-set_other}
+use Rattle.std.proofs.Common.{◌≡◌, ◌≢◌, ℕ, ◌+◌, ◌<◌, ◌≤◌, refl, sym, ap, ◌∙◌, arith, ⊎_elim, List, [], length, get_or, set, replicate, cond, eqb, eq-eqb, ne_eqb, subst, length-set, get_or-set_same, get_or-set_other}
 use Rattle.std.proofs.lemmas.Bool.{cases_eq}
 use Rattle.std.proofs.lemmas.List.{length-replicate, get_or-replicate, get_or-map}
 use Rattle.elem_cubes.specs.Cells.{Factor, dimension_of}
@@ -98,9 +98,9 @@ module _ (K : ChainComplex) (ss : List Step) where
     degrees = ap length e ∙ length-set counts d (get_or counts d 0 + 1) ∙ h.degrees;
     each = λ k s. ⊎_elim
         (λ same. subst (AreLeftBelow K k ss (i + 1)) (sym (ap (λ cs. get_or cs k 0) e ∙ ap (λ n. get_or (set counts d (get_or counts d 0 + 1)) n 0) same ∙ get_or-set_same counts d (get_or counts d 0 + 1) 0 l ∙ ap (λ n. get_or counts n 0 + 1) (sym same)))
-            (more k i (get_or counts k 0) (h.each k s) (degree ∙ sym same) u))
+        (more k i (get_or counts k 0) (h.each k s) (degree ∙ sym same) u))
         (λ f. subst (AreLeftBelow K k ss (i + 1)) (sym (ap (λ cs. get_or cs k 0) e ∙ get_or-set_other counts d k (get_or counts d 0 + 1) 0 f))
-            (kept k i (get_or counts k 0) (λ dk _. f (sym dk ∙ degree)) (h.each k s)))
+        (kept k i (get_or counts k 0) (λ dk _. f (sym dk ∙ degree)) (h.each k s)))
         (cases_eq k d);
   }
 

@@ -1,5 +1,5 @@
 -- From the generators that a reduction leaves to printed cycles that are a basis.
-use Rattle.std.proofs.Common.{◌≡◌, ℕ, zero, suc, ◌+◌, ◌*◌, ◌<◌, ◌≤◌, refl, sym, ap, ◌∙◌, arith, ⊎_elim, List, [], ◌∷◌, length, get_or, map, true, false, cond, eqb, eq-eqb, ne_eqb, subst}
+use Rattle.std.proofs.Common.{◌≡◌, ℕ, zero, suc, ◌+◌, ◌*◌, ◌<◌, ◌≤◌, refl, sym, ap, ◌∙◌, arith, ⊎_elim, List, [], ◌∷◌, length, get_or, map, cond, eqb, eq-eqb, ne_eqb, subst}
 use Rattle.std.proofs.lemmas.Bool.{cases_lt, cases_eq, le-ltb, ltb-true}
 use Rattle.field_mod.specs.Sums.{total}
 use Rattle.field_mod.specs.Modular.{Same}
@@ -53,12 +53,12 @@ module _ (p : ℕ) (K : ChainComplex) (is_modulus : IsModulus p) (is_complex : I
   not_zero i l zero_there =
       let x : ℕ → ℕ = λ j. cond (eqb j i) 1 0 in
       let term : (g : ℕ) → g < length K.boundaries → (j : ℕ) → j < m → Same p (x j * zs j g) 0 = λ g h j q. ⊎_elim
-          (λ e. same_trans (same-scale (x j) (subst (λ (n : ℕ). Same p (zs n g) 0) (sym e) (zero_there g h))) (same_by p 0 0 (x j * 0) 0 (omega arith)))
-          (λ f. same_by p 0 0 (x j * zs j g) 0 (ap (λ b. cond b 1 0 * zs j g + p * 0) (ne_eqb j i f) ∙ omega arith))
-          (cases_eq j i) in
+      (λ e. same_trans (same-scale (x j) (subst (λ (n : ℕ). Same p (zs n g) 0) (sym e) (zero_there g h))) (same_by p 0 0 (x j * 0) 0 (omega arith)))
+      (λ f. same_by p 0 0 (x j * zs j g) 0 (ap (λ b. cond b 1 0 * zs j g + p * 0) (ne_eqb j i f) ∙ omega arith))
+      (cases_eq j i) in
       let null : IsNull p (system K) k (combination m x zs) = null-same p (system K) k (λ g. 0) (combination m x zs)
-          (λ g on. same_trans (total_same p m (λ j. x j * zs j g) (λ j. 0) (term g (ltb-true g (length K.boundaries) on))) (same_by p 0 0 (total m (λ j. 0)) 0 (ap (λ v. v + p * 0) (total-zero m))))
-          (null-zero p (system K) k (is_boundary_operator p K is_complex)) in
+      (λ g on. same_trans (total_same p m (λ j. x j * zs j g) (λ j. 0) (term g (ltb-true g (length K.boundaries) on))) (same_by p 0 0 (total m (λ j. 0)) 0 (ap (λ v. v + p * 0) (total-zero m))))
+      (null-zero p (system K) k (is_boundary_operator p K is_complex)) in
       let one : x i ≡ 1 = ap (λ b. cond b 1 0) (eq-eqb i i refl) in
       one_nonzero p (two_le p is_modulus) (subst (λ (n : ℕ). Same p n 0) one (basis.independent x null i l))
 
@@ -87,7 +87,7 @@ module _ (p : ℕ) (K : ChainComplex) (is_modulus : IsModulus p) (is_complex : I
     multiples = λ i l g. ⊎_elim
         (λ h. subst (λ (ts : List (ℕ × ℕ)). Same p (coefficient ts g) ((pick i).by * zs i g)) (sym (lists_at i l)) (((pick i).is_pick l).multiple g h))
         (λ h. same_trans (same_by p 0 0 (nth_chain lists i g) 0 (ap (λ v. v + p * 0) (past i g l h)))
-            (same_sym (same_trans (same-scale (pick i).by ((basis.cycles i l).chain.on g (le-ltb g (length K.boundaries) h))) (same_by p 0 0 ((pick i).by * 0) 0 (omega arith)))))
+        (same_sym (same_trans (same-scale (pick i).by ((basis.cycles i l).chain.on g (le-ltb g (length K.boundaries) h))) (same_by p 0 0 ((pick i).by * 0) 0 (omega arith)))))
         (cases_lt g (length K.boundaries));
     units = λ i l. ((pick i).is_pick l).unit;
   }

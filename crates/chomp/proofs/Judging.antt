@@ -8,7 +8,6 @@ use Rattle.grid_files.specs.declared.fault.TextCause.{TextCause}
 use Rattle.grid_files.proofs.Outcomes.{one_outcome}
 use Rattle.report.specs.declared.fault.Fault.{Fault}
 use Rattle.chomp.specs.declared.homcubes.Job.{Job}
-use Rattle.chomp.specs.declared.homcubes.Given.{Given}
 use Rattle.chomp.specs.declared.command.Command.{Command}
 use Rattle.chomp.specs.declared.command.Command.TheVariants.{Homcubes}
 use Rattle.chomp.specs.declared.command.Input.{Input}

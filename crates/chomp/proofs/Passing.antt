@@ -1,22 +1,19 @@
 -- What a fault of one file rests on, for the loading of all files.
-use Rattle.std.proofs.Common.{◌≡◌, ℕ, zero, suc, ◌+◌, ◌-◌, ◌^◌, ◌<◌, ◌≤◌, min, Bool, true, false, List, [], ◌∷◌, length, Option, None, Some, Result, Ok, Err, IfErr, IfSome, Contains, refl, sym, ap, ◌∙◌, subst, arith, ◌⊎◌, inl, inr, ⊎_elim, bytes_eq, cond, unwrap_or}
+use Rattle.std.proofs.Common.{◌≡◌, ℕ, zero, suc, ◌+◌, ◌≤◌, Bool, true, false, List, [], ◌∷◌, Option, None, Some, Result, Ok, Err, IfErr, IfSome, Contains, refl, sym, ap, ◌∙◌, subst, arith, ◌⊎◌, inl, inr, ⊎_elim, bytes_eq, cond, unwrap_or}
 use Rattle.outside.specs.Causes.{Rose, more, NoneFell}
 use Rattle.outside.specs.Disk.{Disk}
 use Rattle.grid_files.specs.Sets.{Members, dimensions_agree}
-use Rattle.grid_files.specs.SetFile.{no_members}
 use Rattle.grid_files.specs.declared.fault.Kind.{Kind}
 use Rattle.grid_files.specs.declared.fault.Kind.TheVariants.{Any}
-use Rattle.grid_files.specs.declared.fault.TextCause.{TextCause}
 use Rattle.report.specs.declared.cause.Cause.{Cause}
 use Rattle.report.specs.declared.fault.Fault.{Fault}
-use Rattle.report.specs.declared.fault.Fault.TheVariants.{NoTool, NotAForm, CannotRead, NotCubes, BadText, NotComplex, Dimension, Limit, CannotWriteOut, OutOfMemory}
-use Rattle.report.specs.declared.limit_name.LimitName.{LimitName}
-use Rattle.report.specs.declared.limit_name.LimitName.TheVariants.{FileBytes, Cubes, Cells, Generators, Terms, Coordinates}
+use Rattle.report.specs.declared.fault.Fault.TheVariants.{NoTool, NotAForm, CannotRead, BadText, NotComplex, Dimension, Limit, CannotWriteOut, OutOfMemory}
+use Rattle.report.specs.declared.limit_name.LimitName.TheVariants.{FileBytes}
 use Rattle.chomp.specs.declared.homcubes.Job.{Job}
 use Rattle.chomp.specs.declared.homcubes.Given.{Given}
 use Rattle.chomp.specs.declared.command.Command.TheVariants.{Homcubes}
 use Rattle.chomp.specs.Words.{and_subset, names_of}
-use Rattle.chomp.specs.Refusal.{Is, Reading, reading, but_for, file_bytes, told_cause, text_fault, at_place, IsSetOf, IsSetIn, IsSubsetIn, second_name, pair_of, IsPairIn, IsInputOf}
+use Rattle.chomp.specs.Refusal.{Reading, reading, but_for, file_bytes, told_cause, text_fault, at_place, IsSetOf, IsSetIn, IsSubsetIn, second_name, pair_of, IsPairIn, IsInputOf}
 use Rattle.chomp.specs.Saying.{LoadRestsOn, IsDue}
 
 pub some_map : {A : Type 0} (P Q : A → Type 0) (o : Option A) → ((x : A) → P x → Q x) → IfSome o P → IfSome o Q
@@ -55,7 +52,6 @@ module _ {A B : Type 0} (names all : List (List ℕ)) (load : Reading → Result
   rests_pass NoTool r = r
   rests_pass (NotAForm tool) r = r
   rests_pass (CannotRead name) r = (passes.named name r.0, rose name r.1, unread_so name r.2)
-  rests_pass (NotCubes name) r = r
   rests_pass (BadText name place cause) r = (passes.named name r.0, refused_so (BadText name place cause) r.1)
   rests_pass (NotComplex name degree generator value at) r = r
   rests_pass (Dimension name found earlier) r = (passes.named name r.0, refused_so (Dimension name found earlier) r.1)

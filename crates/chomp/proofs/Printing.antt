@@ -72,9 +72,9 @@ scaled_coefficient p b (t ∷ ts) g =
 unit_nonzero : (p b u v : ℕ) → 2 ≤ p → Same p (u * b) 1 → 0 < v → v < p → 0 < (b * v) % p
 unit_nonzero p b u v two unit pos below = ⊎_elim
     (λ e.
-        let zero_product : Same p (b * v) 0 = same_by p 0 ((b * v) / p) (b * v) 0 (omega arith) in
-        let zero : Same p v 0 = same_trans (same_by p 0 0 v (v * 1) (omega arith)) (same_trans (same-scale v (same_sym unit)) (same_trans (same_by p 0 0 (v * (u * b)) (u * (b * v)) (omega arith)) (same_trans (same-scale u zero_product) (same_by p 0 0 (u * 0) 0 (omega arith))))) in
-        absurd (omega (arith, same_zero p v below zero)))
+    let zero_product : Same p (b * v) 0 = same_by p 0 ((b * v) / p) (b * v) 0 (omega arith) in
+    let zero : Same p v 0 = same_trans (same_by p 0 0 v (v * 1) (omega arith)) (same_trans (same-scale v (same_sym unit)) (same_trans (same_by p 0 0 (v * (u * b)) (u * (b * v)) (omega arith)) (same_trans (same-scale u zero_product) (same_by p 0 0 (u * 0) 0 (omega arith))))) in
+    absurd (omega (arith, same_zero p v below zero)))
     (λ f. omega arith)
     (cases_eq ((b * v) % p) 0)
 

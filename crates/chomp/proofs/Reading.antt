@@ -1,18 +1,16 @@
 -- What words say, word by word.
-use Rattle.std.proofs.Common.{◌≡◌, ℕ, ◌+◌, ◌<◌, List, [], ◌∷◌, ◌++◌, length, get_or, drop, drop_of_length-le, Option, None, Some, Result, Ok, Err, String, string_bytes, refl, sym, ap, ◌∙◌, arith, append_assoc, append-nil, subst, ◌⊎◌, inl, inr}
+use Rattle.std.proofs.Common.{◌≡◌, ℕ, ◌+◌, ◌<◌, List, [], ◌∷◌, ◌++◌, length, get_or, drop, drop_of_length-le, Option, None, Some, Ok, Err, String, string_bytes, refl, sym, ap, ◌∙◌, arith, append_assoc, append-nil, ◌⊎◌, inl, inr}
 use Rattle.std.specs.Option.{option_map}
 use Rattle.std.proofs.lemmas.List.{drop_more}
 use Rattle.report.specs.declared.fault.Fault.{Fault}
 use Rattle.report.specs.declared.fault.Fault.TheVariants.{NotAForm, OutOfMemory}
 use Rattle.chomp.specs.declared.tool.Tool.{Tool}
 use Rattle.chomp.specs.declared.words.Next.{Next}
-use Rattle.chomp.specs.declared.words.Next.TheVariants.{Anything, ValueOf, OperandsAlone}
 use Rattle.chomp.specs.declared.words.Said.{Said}
 use Rattle.chomp.specs.declared.words.Said.TheVariants.{Nothing, Operand, Set}
 use Rattle.chomp.specs.declared.words.WordRead.{WordRead}
 use Rattle.chomp.specs.Forms.{Spoken, spoken, form_of, word_read, also, after, onto, at_end, word_first, words_read}
 use Rattle.chomp.specs.Words.{formed}
-use Rattle.chomp.specs.Saying.{IsDue}
 
 pub formed_some : {A : Type 0} (tool : Tool) (o : Option A) (x : A) → formed tool o ≡ Ok x → o ≡ Some x
 formed_some tool None x e = cc

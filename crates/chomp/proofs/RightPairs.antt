@@ -40,9 +40,11 @@ module _ (p : ℕ) (x a cells : List (List Factor)) (K : ChainComplex) (ss : Lis
   pub right_pair : (most i : ℕ) (counts : List ℕ) → i ≡ length K.boundaries → Counts K ss most i counts
       → (cs : List (List (List (List Factor × ℕ)))) × IsRightPair p most x a counts cs
   right_pair most i counts e h =
-      let at : (k : ℕ) → InDegree k (get_or counts k 0) (k ≤ most) = any_degree most i counts e h in
-      (tabulated (most + 1) (λ k. (at k).list), record {
-        degrees = h.degrees;
-        cycle_degrees = length-tabulated (most + 1) (λ k. (at k).list);
-        each = λ k l. subst (IsRightInDegree p x a k (get_or counts k 0)) (sym (get_or-tabulated (most + 1) (λ k. (at k).list) k [] (omega arith))) ((at k).right l);
-      })
+      let at : (k : ℕ) → InDegree k (get_or counts k 0) (k ≤ most) = any_degree most i counts e h in (
+        tabulated (most + 1) (λ k. (at k).list),
+        record {
+          degrees = h.degrees;
+          cycle_degrees = length-tabulated (most + 1) (λ k. (at k).list);
+          each = λ k l. subst (IsRightInDegree p x a k (get_or counts k 0)) (sym (get_or-tabulated (most + 1) (λ k. (at k).list) k [] (omega arith))) ((at k).right l);
+        },
+      )

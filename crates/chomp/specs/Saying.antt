@@ -4,7 +4,7 @@ use Rattle.outside.specs.Causes.{Rose, more}
 use Rattle.outside.specs.Disk.{Disk}
 use Rattle.outside.specs.Told.{Gains, GainsFront}
 use Rattle.report.specs.declared.fault.Fault.{Fault}
-use Rattle.report.specs.declared.fault.Fault.TheVariants.{NoTool, NotAForm, CannotRead, NotCubes, BadText, NotComplex, Dimension, Limit, CannotWriteOut, OutOfMemory}
+use Rattle.report.specs.declared.fault.Fault.TheVariants.{CannotRead, BadText, Dimension, Limit, OutOfMemory}
 use Rattle.report.specs.declared.limit_name.LimitName.TheVariants.{FileBytes}
 use Rattle.report.specs.declared.reports.Report.{Report}
 use Rattle.report.specs.ReportText.{report_text}

@@ -1,7 +1,7 @@
 -- The statuses with which a run ends.
 use Rattle.std.specs.Prelude.{ℕ}
 use Rattle.report.specs.declared.fault.Fault.{Fault}
-use Rattle.report.specs.declared.fault.Fault.TheVariants.{NoTool, NotAForm, CannotRead, NotCubes, BadText, NotComplex, Dimension, CannotWriteOut, OutOfMemory}
+use Rattle.report.specs.declared.fault.Fault.TheVariants.{NoTool, NotAForm, CannotRead, BadText, NotComplex, Dimension, CannotWriteOut, OutOfMemory}
 use Rattle.report.specs.declared.fault.Fault.TheVariants as faults
 use Rattle.chomp.specs.declared.status.Status.{Status}
 use Rattle.chomp.specs.declared.status.Status.TheVariants.{Done, Words, Text, Read, Write, NoMemory, Limit}
@@ -11,7 +11,6 @@ abbrev pub status_of : Fault → Status
 status_of NoTool = Words
 status_of (NotAForm tool) = Words
 status_of (CannotRead name) = Read
-status_of (NotCubes name) = Text
 status_of (BadText name place cause) = Text
 status_of (NotComplex name degree generator value at) = Text
 status_of (Dimension name found before) = Text

@@ -52,12 +52,20 @@ pub fn asked(alloc: Global, arguments: &Arguments) -> Result<Job, Fault>
     match arguments.operands() {
         [x] => {
             let x = copied(alloc, x)?;
-            Ok(Job { x, a: None, modulus })
+            Ok(Job {
+                x,
+                a: None,
+                modulus,
+            })
         }
         [x, a] => {
             let x = copied(alloc, x)?;
             let a = copied(alloc, a)?;
-            Ok(Job { x, a: Some(a), modulus })
+            Ok(Job {
+                x,
+                a: Some(a),
+                modulus,
+            })
         }
         _ => Err(not_a_form(alloc, Tool::Homcubes)),
     }

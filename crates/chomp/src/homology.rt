@@ -50,6 +50,7 @@ fn dimensions_over<const P: u16>(
     let complex = complex_of(alloc, field, &cells)?;
     let log = Log::start(alloc, complex)?.reduce_all(field)?;
     let counts = left_by_degree(alloc, &log, &cells, most)?;
+    // Its clauses tell that the log is a reduction of the complex.
     let _steps = log.step_count();
     Ok(counts)
 }

@@ -31,10 +31,9 @@ impl Status {
         match fault {
             Fault::NoTool | Fault::NotAForm { .. } => Status::Words,
             Fault::CannotRead { .. } => Status::Read,
-            Fault::NotCubes { .. }
-            | Fault::BadText { .. }
-            | Fault::NotComplex { .. }
-            | Fault::Dimension { .. } => Status::Text,
+            Fault::BadText { .. } | Fault::NotComplex { .. } | Fault::Dimension { .. } => {
+                Status::Text
+            }
             Fault::Limit { .. } => Status::Limit,
             Fault::CannotWriteOut => Status::Write,
             Fault::OutOfMemory => Status::NoMemory,

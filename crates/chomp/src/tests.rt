@@ -3,7 +3,9 @@ use crate::run::run;
 use crate::status::Status;
 use outside::{MemFiles, MemSink, OpenGate};
 use std::alloc::Global;
+use std::process::Abort;
 use std::test::Fail;
+use std::thread::Threads;
 
 const FILES: [(&str, &str); 23] = [
     ("e", ""),
@@ -27,10 +29,7 @@ const FILES: [(&str, &str); 23] = [
     ("x", "(0)"),
     ("a", "[(0)(0)] [(1)(1)]"),
     ("v", "[(0)(0)]"),
-    (
-        "s",
-        "[(0 0)(1 0)] [(0 0)(0 1)] [(0 1)(1 1)] [(1 0)(1 1)]",
-    ),
+    ("s", "[(0 0)(1 0)] [(0 0)(0 1)] [(0 1)(1 1)] [(1 0)(1 1)]"),
     ("flat", "dimension 2"),
     ("open", "(0 0) (1"),
     ("long", "(0 0 0 0 0)"),
@@ -44,6 +43,7 @@ const FILES: [(&str, &str); 23] = [
     ("half", "[(0 0)(1 "),
 ];
 
+#[derive(Drop)]
 struct Row {
     words: &'static [&'static str],
     failing_reads: &'static [u64],
@@ -333,8 +333,7 @@ fn held(alloc: Global) -> Result<Vec<(String, Vec<u8>)>, Fail> {
 }
 
 // With ample memory each row has its status, which is never that of want of memory.
-fn answers(rt: &HostRuntime, row: &Row) -> Result<(), Fail> {
-    let alloc = rt.alloc();
+fn answers<R: Threads + Abort>(rt: &R, alloc: Global, row: &Row) -> Result<(), Fail> {
     let mut words = Vec::new(alloc);
     for word in row.words {
         words.push(String::from_str(alloc, word)?)?;
@@ -344,9 +343,7 @@ fn answers(rt: &HostRuntime, row: &Row) -> Result<(), Fail> {
     let failing = Vec::from_slice(alloc, row.failing_writes)?;
     let mut out = MemSink::of(alloc, failing, row.most.max(1));
     let mut err = MemSink::of(alloc, Vec::new(alloc), 1000);
-    let status = run(
-        rt, alloc, &words, &mut files, &mut out, &mut err, &OpenGate,
-    );
+    let status = run(rt, alloc, &words, &mut files, &mut out, &mut err, &OpenGate);
     assert!(rt; status == row.status, "{:?}", status);
     assert!(rt; status != Status::NoMemory);
     assert_eq!(rt; out.bytes(), row.out.as_bytes());
@@ -357,7 +354,7 @@ fn answers(rt: &HostRuntime, row: &Row) -> Result<(), Fail> {
 #[test]
 fn sets_have_their_homology(rt: HostRuntime) -> Result<(), Fail> {
     for row in &SETS {
-        answers(&rt, row)?;
+        answers(&rt, rt.alloc(), row)?;
     }
     Ok(())
 }
@@ -365,7 +362,7 @@ fn sets_have_their_homology(rt: HostRuntime) -> Result<(), Fail> {
 #[test]
 fn pairs_and_moduli_have_their_homology(rt: HostRuntime) -> Result<(), Fail> {
     for row in &PAIRS_AND_MODULI {
-        answers(&rt, row)?;
+        answers(&rt, rt.alloc(), row)?;
     }
     Ok(())
 }
@@ -373,7 +370,7 @@ fn pairs_and_moduli_have_their_homology(rt: HostRuntime) -> Result<(), Fail> {
 #[test]
 fn texts_are_refused_at_their_places(rt: HostRuntime) -> Result<(), Fail> {
     for row in &TEXTS {
-        answers(&rt, row)?;
+        answers(&rt, rt.alloc(), row)?;
     }
     Ok(())
 }
@@ -381,7 +378,7 @@ fn texts_are_refused_at_their_places(rt: HostRuntime) -> Result<(), Fail> {
 #[test]
 fn failed_reads_and_writes_are_told(rt: HostRuntime) -> Result<(), Fail> {
     for row in &FAULTS {
-        answers(&rt, row)?;
+        answers(&rt, rt.alloc(), row)?;
     }
     Ok(())
 }
@@ -389,10 +386,10 @@ fn failed_reads_and_writes_are_told(rt: HostRuntime) -> Result<(), Fail> {
 #[test]
 fn words_of_no_form_are_refused(rt: HostRuntime) -> Result<(), Fail> {
     for words in &NO_FORMS {
-        answers(&rt, &Row { words, ..NO_FORM })?;
+        answers(&rt, rt.alloc(), &Row { words, ..NO_FORM })?;
     }
     for words in &NO_TOOLS {
-        answers(&rt, &Row { words, ..NO_TOOL })?;
+        answers(&rt, rt.alloc(), &Row { words, ..NO_TOOL })?;
     }
     Ok(())
 }

@@ -74,12 +74,7 @@ fn option_read(alloc: Global, tool: Tool, word: &str) -> Result<WordRead, Fault>
 }
 
 // An option with a value behind the equals sign.
-fn valued(
-    alloc: Global,
-    tool: Tool,
-    choice: Option<Choice>,
-    value: &str,
-) -> Result<WordRead, Fault>
+fn valued(alloc: Global, tool: Tool, choice: Option<Choice>, value: &str) -> Result<WordRead, Fault>
     ensures { IsDue (formed tool (valued choice value.now)) result }
 {
     match choice {

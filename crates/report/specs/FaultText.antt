@@ -3,7 +3,7 @@ use Rattle.std.specs.Prelude.{ℕ, List, ◌++◌, codes, decimal}
 use Rattle.report.specs.declared.cause.Cause.{Cause}
 use Rattle.report.specs.declared.cause.Cause.TheVariants.{BadByte, BadNumber, NotClosed, MixedDimension, DimensionTooLarge, CoordinateTooLarge, NotElementary, NotFull, UnknownGenerator, RepeatedGenerator}
 use Rattle.report.specs.declared.fault.Fault.{Fault}
-use Rattle.report.specs.declared.fault.Fault.TheVariants.{NoTool, NotAForm, CannotRead, NotCubes, BadText, NotComplex, Dimension, Limit, CannotWriteOut, OutOfMemory}
+use Rattle.report.specs.declared.fault.Fault.TheVariants.{NoTool, NotAForm, CannotRead, BadText, NotComplex, Dimension, Limit, CannotWriteOut, OutOfMemory}
 use Rattle.report.specs.declared.limit_name.LimitName.{LimitName}
 use Rattle.report.specs.declared.limit_name.LimitName.TheVariants.{FileBytes, Cubes, Cells, Generators, Terms, Coordinates}
 
@@ -34,7 +34,6 @@ abbrev pub fault_text : Fault → List ℕ
 fault_text NoTool = codes "error: words: no tool of that name\n"
 fault_text (NotAForm tool) = codes "error: words: not a form of " ++ tool ++ codes "\n"
 fault_text (CannotRead name) = codes "error: cannot read " ++ name ++ codes "\n"
-fault_text (NotCubes name) = codes "error: " ++ name ++ codes ": not a list of full cubes\n"
 fault_text (BadText name place cause) = codes "error: " ++ name ++ codes ": byte " ++ decimal place ++ codes ": " ++ cause_text cause ++ codes "\n"
 fault_text (NotComplex name degree generator value at) = codes "error: " ++ name ++ codes ": dimension " ++ decimal degree
     ++ codes ": # " ++ decimal generator ++ codes ": boundary of boundary has " ++ decimal value ++ codes " * " ++ decimal at ++ codes "\n"

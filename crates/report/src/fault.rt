@@ -23,11 +23,6 @@ pub enum Fault {
     CannotRead {
         name: Name,
     },
-    /// The text of a file is not a list of full cubes.
-    #[error("{name}: not a list of full cubes")]
-    NotCubes {
-        name: Name,
-    },
     /// The text of a file is refused at a place, counted in bytes from 0.
     #[error("{name}: byte {place}: {cause}")]
     BadText {
@@ -74,9 +69,6 @@ pub fn fault_text(alloc: Global, fault: &Fault) -> Result<Vec<u8>, NoMemory>
         Fault::NoTool => Vec::from_slice(alloc, b"error: words: no tool of that name\n"),
         Fault::NotAForm { tool } => framed(alloc, b"error: words: not a form of ", tool, b"\n"),
         Fault::CannotRead { name } => framed(alloc, b"error: cannot read ", name, b"\n"),
-        Fault::NotCubes { name } => {
-            framed(alloc, b"error: ", name, b": not a list of full cubes\n")
-        }
         Fault::BadText { name, place, cause } => bad_text(alloc, name, *place, *cause),
         Fault::NotComplex {
             name,

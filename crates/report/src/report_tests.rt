@@ -1,4 +1,7 @@
 //! Reports and their texts.
+ghost use Rattle.std.specs.Prelude.{IfOk};
+ghost use Rattle.report.specs.ReportText.{HasText};
+
 use crate::{Cycles, Dimensions, PairReport, Report, Shown, Terms, text};
 use elem_cubes::{Cell, Corner};
 use grid_files::{CUBES, Kind, read_set};
@@ -31,7 +34,9 @@ fn loop_of_edges(alloc: Global) -> Result<Terms<Cell>, Fail> {
 }
 
 // The report on the square's border: one component, one loop.
-fn border(alloc: Global) -> Result<Report, Fail> {
+fn border(alloc: Global) -> Result<Report, Fail>
+    ensures { IfOk result HasText }
+{
     let mut points = Vec::new(alloc);
     if let Some(point) = cell(&[0, 0], 0) {
         points.push((point, 1))?;

@@ -1,4 +1,4 @@
-use Rattle.std.proofs.Common.{◌≡◌, sym, ap, ◌∙◌, false, cond, drop, ◌+◌}
+use Rattle.std.proofs.Common.{sym, ap, ◌∙◌, false, cond, drop, ◌+◌}
 use Rattle.chomp.specs.Forms.{are_once}
 use Rattle.chomp.proofs.Tables.{once_at}
 use Rattle.chomp.proofs.arguments.are_once.Goals as goal

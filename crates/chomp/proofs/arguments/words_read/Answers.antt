@@ -1,9 +1,7 @@
 use Rattle.std.proofs.lemmas.Result.{err_from_is_err_and}
-use Rattle.std.proofs.Common.{◌≡◌, ap, sym, ◌∙◌, refl, subst, arith, length}
 use Rattle.chomp.specs.Forms.{spoken, words_read}
-use Rattle.chomp.specs.Words.{formed}
 use Rattle.chomp.specs.declared.words.Next.TheVariants.{Anything}
-use Rattle.chomp.proofs.Reading.{word_added, word_refused, all_read, value_missing}
+use Rattle.chomp.proofs.Reading.{word_added, word_refused}
 use Rattle.chomp.proofs.arguments.words_read.Goals as goal
 
 pub loop-word-preserved : goal.loop-word-preserved

@@ -1,4 +1,4 @@
-use Rattle.std.proofs.Common.{◌≡◌, sym, ap, ◌∙◌, subst, length}
+use Rattle.std.proofs.Common.{◌≡◌, sym, ◌∙◌, subst, length}
 use Rattle.chains.specs.ChainComplex.{ChainComplex}
 use Rattle.cell_complex.specs.Numbering.{IsComplexOf}
 use Rattle.chomp.proofs.RightPairs.{right_pair}

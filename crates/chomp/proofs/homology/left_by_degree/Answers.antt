@@ -1,6 +1,5 @@
-use Rattle.std.proofs.Common.{◌≡◌, ℕ, ◌+◌, ◌<◌, ◌≤◌, List, length, get_or, arith, sym, ap, ◌∙◌, subst, Vec, replicate, set}
+use Rattle.std.proofs.Common.{◌≡◌, ℕ, ◌+◌, ◌<◌, ◌≤◌, length, get_or, arith, sym, ap, ◌∙◌, subst, Vec, replicate, set}
 use Rattle.std.proofs.lemmas.List.{get_or_default}
-use Rattle.elem_cubes.specs.Cells.{Factor}
 use Rattle.chomp.specs.Counting.{Counts}
 use Rattle.chomp.proofs.Counting.{no_counts, count_stays, count_grows, degree_of}
 use Rattle.chomp.proofs.homology.left_by_degree.Goals as goal
@@ -19,11 +18,11 @@ loop-number-preserved g c =
     let degree : get_or K.degrees i 0 ≡ d = degree_of g.row.P K c.args.cells.now i d c.cell.result c.requires inside c.cell.ensures c.dim-degree.ensures.dimension in
     let inv : Counts K ss c.args.most i c.loop-number.counts.items = c.loop-number.invariant in
     elim c.if-alive.branch [
-      then-alive+then-degree-len w ↦ count_grows K ss c.args.most i d c.loop-number.counts.items c.if-alive.counts.items degree (c.alive.ensures.0 w.if-alive.true) (omega (arith, w.if-degree-len.true, w.len.ensures, c.loop-number.counts.ok.0))
+      | then-alive+then-degree-len w ↦ count_grows K ss c.args.most i d c.loop-number.counts.items c.if-alive.counts.items degree (c.alive.ensures.0 w.if-alive.true) (omega (arith, w.if-degree-len.true, w.len.ensures, c.loop-number.counts.ok.0))
           (ap (λ (v : Vec ℕ _). v.items) w.counts-is ∙ ap (λ n. set c.loop-number.counts.items d (n + 1)) (w.index_mut.ensures.value ∙ get_or_default c.loop-number.counts.items d w.index_mut.result.now 0 (omega (arith, w.if-degree-len.true, w.len.ensures, c.loop-number.counts.ok.0)))) inv
       | else-alive w ↦ subst (λ (v : Vec ℕ _). Counts K ss c.args.most (i + 1) v.items) (sym w.counts-is) (count_stays K ss c.args.most i c.loop-number.counts.items
           (elim w.else-alive.branch [
-            else-alive-via-then-alive+else-degree-len v ↦ λ l u. absurd (omega (arith, v.if-degree-len.false, v.len.ensures, c.loop-number.counts.ok.0, inv.degrees, l, degree))
+            | else-alive-via-then-alive+else-degree-len v ↦ λ l u. absurd (omega (arith, v.if-degree-len.false, v.len.ensures, c.loop-number.counts.ok.0, inv.degrees, l, degree))
             | else-alive-via-else-alive v ↦ λ l u. let t = c.alive.ensures.1 u in let f = v.if-alive.false in absurd (cc (t, f))
           ]) inv)
     ]

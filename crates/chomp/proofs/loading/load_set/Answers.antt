@@ -1,4 +1,4 @@
-use Rattle.std.proofs.Common.{◌≡◌, ℕ, List, sym, ap, ◌∙◌, subst, [], ◌∷◌, Ok, Err, ◌⊎◌, IfSome}
+use Rattle.std.proofs.Common.{◌≡◌, ℕ, List, sym, subst, [], ◌∷◌, Ok, Err, ◌⊎◌, IfSome}
 use Rattle.report.specs.declared.fault.Fault.{Fault}
 use Rattle.report.specs.declared.fault.Fault.TheVariants.{OutOfMemory}
 use Rattle.chomp.specs.Refusal.{IsSetOf, IsSetIn, reading, file_bytes}
@@ -16,5 +16,5 @@ returns-clause-fault g c =
     (LoadRestsOn (name ∷ []) (IsSetIn c.args.kind name) (g.F.Files.holds files) (g.F.Files.read_faults files) (g.F.Files.read_faults later) (g.F.Files.given files) (g.F.Files.given later))
     c.set_of.result
     (λ f. text_rests c.args.kind name text (g.F.Files.holds files) (g.F.Files.read_faults files) (g.F.Files.read_faults later) (g.F.Files.given files) (g.F.Files.given later) f
-      (subst (λ (bytes : List ℕ). IfSome (g.F.Files.holds files) (λ disk. reading disk file_bytes name ≡ Ok bytes)) (sym c.deref.ensures.value) c.in_ok-bytes.ensures.bytes))
+    (subst (λ (bytes : List ℕ). IfSome (g.F.Files.holds files) (λ disk. reading disk file_bytes name ≡ Ok bytes)) (sym c.deref.ensures.value) c.in_ok-bytes.ensures.bytes))
     c.set_of.ensures.fault

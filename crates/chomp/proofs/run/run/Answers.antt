@@ -1,4 +1,3 @@
-use Rattle.outside.specs.Causes.{Rose}
 use Rattle.chomp.specs.Forms.{spoken}
 use Rattle.chomp.specs.Words.{command_of}
 use Rattle.chomp.proofs.Answering.{refusal_answers, delivery_answers, words_said, said_rests, gains_nothing}
