@@ -5,6 +5,8 @@ pub mod Counting
 pub mod RightPairs
 pub mod Judging
 pub mod Passing
+pub mod PassingSets
+pub mod SetReports
 pub mod Answering
 pub mod Tables
 pub mod Reading

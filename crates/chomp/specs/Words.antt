@@ -12,7 +12,10 @@ use Rattle.chomp.specs.declared.tool.Choice.TheVariants.{Modulus}
 use Rattle.chomp.specs.declared.arguments.Setting.{Setting}
 use Rattle.chomp.specs.declared.homcubes.Job.{Job}
 use Rattle.chomp.specs.declared.command.Command.{Command}
-use Rattle.chomp.specs.declared.command.Command.TheVariants.{Homcubes}
+use Rattle.chomp.specs.declared.command.Command.TheVariants.{Homcubes, Combine, Cubnbhd, Cubcells}
+use Rattle.chomp.specs.declared.combine.Combination.{Combination}
+use Rattle.chomp.specs.declared.combine.Combination.TheVariants.{Union, Intersection}
+use Rattle.chomp.specs.declared.combine.TwoFiles.{TwoFiles}
 use Rattle.chomp.specs.Forms.{Spoken, form_of, named, tool_named, form_read}
 
 -- what was found, or that the words are not of the tool's form
@@ -42,8 +45,22 @@ pair_job operands modulus = None
 abbrev pub homcubes_job : Spoken → Option Job
 homcubes_job spoken = option_and_then (pair_job spoken.operands) (modulus_in spoken.settings)
 
+-- what the words ask of `cubunion` and `cubinter`: to combine two sets
+abbrev pub two_files : Combination → List (List ℕ) → Option TwoFiles
+two_files combination (x ∷ y ∷ []) = Some (record { x = x; y = y; combination = combination })
+two_files combination operands = None
+
+-- the operand of a tool that takes one
+abbrev pub only_operand : List (List ℕ) → Option (List ℕ)
+only_operand (x ∷ []) = Some x
+only_operand operands = None
+
 abbrev pub job_of : Tool → Spoken → Option Command
 job_of tools.Homcubes spoken = option_map Homcubes (homcubes_job spoken)
+job_of tools.Cubunion spoken = option_map Combine (two_files Union spoken.operands)
+job_of tools.Cubinter spoken = option_map Combine (two_files Intersection spoken.operands)
+job_of tools.Cubnbhd spoken = option_map Cubnbhd (only_operand spoken.operands)
+job_of tools.Cubcells spoken = option_map Cubcells (only_operand spoken.operands)
 
 abbrev pub command_with : Option Tool → List (List ℕ) → Result Command Fault
 command_with None words = Err NoTool
@@ -61,6 +78,9 @@ and_subset (Some a) = a ∷ []
 
 abbrev pub names_of : Command → List (List ℕ)
 names_of (Homcubes job) = job.x ∷ and_subset job.a
+names_of (Combine files) = files.x ∷ files.y ∷ []
+names_of (Cubnbhd x) = x ∷ []
+names_of (Cubcells x) = x ∷ []
 
 abbrev pub count_in : Result Command Fault → ℕ
 count_in (Ok command) = length (names_of command)
@@ -70,6 +90,13 @@ count_in (Err fault) = 0
 abbrev pub files_asked : List (List ℕ) → ℕ
 files_asked words = count_in (command_of words)
 
+-- how a report on no homology is printed: its text asks for no modulus
+abbrev pub plain : Shown
+plain = record { modulus = 2; cycles = false }
+
 -- how the report of a command is printed
 abbrev pub shown_of : Command → Shown
 shown_of (Homcubes job) = record { modulus = job.modulus; cycles = false }
+shown_of (Combine files) = plain
+shown_of (Cubnbhd x) = plain
+shown_of (Cubcells x) = plain

@@ -8,10 +8,14 @@ ghost use Rattle.chomp.specs.Saying.{LoadRestsOn, IsDue};
 ghost use Rattle.chomp.specs.Right.{IsRightButForCycles};
 
 use crate::arguments::arguments_of;
-use crate::homcubes;
+use crate::combine::{self, Combination, TwoFiles, TwoSets};
+use crate::cubnbhd::{self, FullCubes};
+use crate::modulus::Modulus;
 use crate::tool::Tool;
+use crate::{cubcells, homcubes};
+use grid_files::CubeSet;
 use outside::Files;
-use report::{Fault, Report, Shown};
+use report::{Fault, Name, Report, Shown};
 use std::alloc::Global;
 
 /// What the words ask for.
@@ -19,6 +23,12 @@ use std::alloc::Global;
 pub enum Command {
     /// The homology of a set or a pair.
     Homcubes(homcubes::Job),
+    /// The union or the intersection of two sets.
+    Combine(TwoFiles),
+    /// The neighbourhood of the set of this file.
+    Cubnbhd(Name),
+    /// The cells of the set of this file.
+    Cubcells(Name),
 }
 
 /// What the files give that the words name.
@@ -26,6 +36,12 @@ pub enum Command {
 pub enum Input {
     /// For the homology of a set or a pair.
     Homcubes(homcubes::Given),
+    /// For the union or the intersection of two sets.
+    Combine(TwoSets),
+    /// For the neighbourhood of a set.
+    Cubnbhd(FullCubes),
+    /// For the cells of a set.
+    Cubcells(CubeSet),
 }
 
 /// What the words ask for.
@@ -48,6 +64,16 @@ fn command_with(alloc: Global, tool: Tool, words: &[String]) -> Result<Command, 
     let arguments = arguments_of(alloc, tool, words)?;
     match tool {
         Tool::Homcubes => Ok(Command::Homcubes(homcubes::asked(alloc, &arguments)?)),
+        Tool::Cubunion => {
+            let files = combine::asked(alloc, tool, Combination::Union, &arguments)?;
+            Ok(Command::Combine(files))
+        }
+        Tool::Cubinter => {
+            let files = combine::asked(alloc, tool, Combination::Intersection, &arguments)?;
+            Ok(Command::Combine(files))
+        }
+        Tool::Cubnbhd => Ok(Command::Cubnbhd(arguments.only_operand(alloc, tool)?)),
+        Tool::Cubcells => Ok(Command::Cubcells(arguments.only_operand(alloc, tool)?)),
     }
 }
 
@@ -61,6 +87,9 @@ pub fn load<F: Files>(alloc: Global, files: &mut F, command: &Command) -> Result
 {
     match command {
         Command::Homcubes(job) => Ok(Input::Homcubes(homcubes::load(alloc, files, job)?)),
+        Command::Combine(named) => Ok(Input::Combine(combine::load(alloc, files, named)?)),
+        Command::Cubnbhd(x) => Ok(Input::Cubnbhd(cubnbhd::load(alloc, files, x)?)),
+        Command::Cubcells(x) => Ok(Input::Cubcells(cubcells::load(alloc, files, x)?)),
     }
 }
 
@@ -73,6 +102,9 @@ pub fn compute(alloc: Global, input: &Input) -> Result<Report, Fault>
 {
     match input {
         Input::Homcubes(given) => homcubes::compute(alloc, given),
+        Input::Combine(sets) => combine::compute(alloc, sets),
+        Input::Cubnbhd(cubes) => cubnbhd::compute(alloc, cubes),
+        Input::Cubcells(set) => cubcells::compute(alloc, set),
     }
 }
 
@@ -84,6 +116,10 @@ impl Command {
         match self {
             Command::Homcubes(job) => Shown {
                 modulus: job.modulus.number(),
+                cycles: false,
+            },
+            Command::Combine(_) | Command::Cubnbhd(_) | Command::Cubcells(_) => Shown {
+                modulus: Modulus::usual().number(),
                 cycles: false,
             },
         }

@@ -2,7 +2,10 @@
 #![tactic(auto)]
 
 mod arguments;
+mod combine;
 mod command;
+mod cubcells;
+mod cubnbhd;
 mod delivery;
 mod homcubes;
 mod homology;
@@ -55,5 +58,7 @@ fn words_of(rt: &HostRuntime) -> Result<Vec<String>, Fault> {
     }
 }
 
+#[cfg(test)]
+mod set_tests;
 #[cfg(test)]
 mod tests;

@@ -7,6 +7,14 @@ ghost use Rattle.chomp.specs.Forms.{form_of, tool_named, option_named, takes_val
 pub enum Tool {
     /// The homology of a set or a pair.
     Homcubes,
+    /// The union of two sets.
+    Cubunion,
+    /// The intersection of two sets.
+    Cubinter,
+    /// The neighbourhood of a set of full cubes.
+    Cubnbhd,
+    /// The cells of a set.
+    Cubcells,
 }
 
 /// An option of a tool.
@@ -23,6 +31,10 @@ impl Tool {
     {
         match word {
             "homcubes" => Some(Tool::Homcubes),
+            "cubunion" => Some(Tool::Cubunion),
+            "cubinter" => Some(Tool::Cubinter),
+            "cubnbhd" => Some(Tool::Cubnbhd),
+            "cubcells" => Some(Tool::Cubcells),
             _ => None,
         }
     }
@@ -33,6 +45,10 @@ impl Tool {
     {
         match self {
             Tool::Homcubes => "homcubes",
+            Tool::Cubunion => "cubunion",
+            Tool::Cubinter => "cubinter",
+            Tool::Cubnbhd => "cubnbhd",
+            Tool::Cubcells => "cubcells",
         }
     }
 
@@ -41,7 +57,8 @@ impl Tool {
         ensures { result ≡ (form_of self).fewest }
     {
         match self {
-            Tool::Homcubes => 1,
+            Tool::Homcubes | Tool::Cubnbhd | Tool::Cubcells => 1,
+            Tool::Cubunion | Tool::Cubinter => 2,
         }
     }
 
@@ -50,7 +67,8 @@ impl Tool {
         ensures { result ≡ (form_of self).most }
     {
         match self {
-            Tool::Homcubes => 2,
+            Tool::Homcubes | Tool::Cubunion | Tool::Cubinter => 2,
+            Tool::Cubnbhd | Tool::Cubcells => 1,
         }
     }
 
@@ -63,6 +81,7 @@ impl Tool {
                 "--mod" => Some(Choice::Modulus),
                 _ => None,
             },
+            Tool::Cubunion | Tool::Cubinter | Tool::Cubnbhd | Tool::Cubcells => None,
         }
     }
 }
