@@ -26,7 +26,7 @@ use Rattle.chomp.specs.declared.tool.Tool.{Tool}
 use Rattle.chomp.specs.Combining.{combined_of}
 use Rattle.chomp.specs.Forms.{tool_named, form_read}
 use Rattle.chomp.specs.Words.{formed, job_of, command_with, command_of, names_of, plain, shown_of}
-use Rattle.chomp.specs.Refusal.{Reading, reading, IsInputOf, most_cubes, most_cells, greatest_end, within_cells, within_cubes, within_range, as_input, within_limits, IsJudged}
+use Rattle.chomp.specs.Refusal.{reading, IsInputOf, most_cubes, most_cells, greatest_end, within_cells, within_cubes, as_input, within_limits, IsJudged}
 use Rattle.chomp.specs.declared.homcubes.Given.{Given}
 use Rattle.chomp.specs.Right.{IsRight, IsPairRightButForCycles, IsRightButForCycles}
 use Rattle.chomp.specs.Saying.{LoadRestsOn, RestsOn, IsAnswer, ReadFailed, Answers}

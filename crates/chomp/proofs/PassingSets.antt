@@ -1,6 +1,5 @@
 -- What a fault of one file rests on, for the loading of the files of a tool on sets.
-use Rattle.std.proofs.Common.{◌≡◌, ℕ, ◌+◌, ◌≤◌, Bool, true, false, List, [], ◌∷◌, Option, None, Some, Result, Ok, Err, IfSome, Contains, refl, sym, ap, ◌∙◌, subst, arith, ◌⊎◌, inl, inr, ⊎_elim, cond}
-use Rattle.outside.specs.Causes.{NoneFell}
+use Rattle.std.proofs.Common.{◌≡◌, ℕ, Bool, true, false, List, [], ◌∷◌, Option, None, Some, Result, Ok, Err, IfSome, Contains, refl, sym, ap, ◌∙◌, subst, arith, ◌⊎◌, inl, inr, ⊎_elim, cond}
 use Rattle.outside.specs.Disk.{Disk}
 use Rattle.grid_files.specs.Sets.{Members, dimensions_agree}
 use Rattle.grid_files.specs.declared.fault.Kind.TheVariants.{Any}
@@ -8,9 +7,9 @@ use Rattle.report.specs.declared.fault.Fault.{Fault}
 use Rattle.report.specs.declared.fault.Fault.TheVariants.{CannotRead, Dimension, OutOfMemory}
 use Rattle.chomp.specs.declared.combine.TwoFiles.{TwoFiles}
 use Rattle.chomp.specs.Combining.{Operands}
-use Rattle.chomp.specs.Refusal.{Then, Is, Reading, reading, but_for, IsSetIn, operands_of, AreOperandsIn}
+use Rattle.chomp.specs.Refusal.{Then, Reading, reading, but_for, IsSetIn, operands_of, AreOperandsIn}
 use Rattle.chomp.specs.Saying.{LoadRestsOn}
-use Rattle.chomp.proofs.Passing.{Passes, some_map, rests_pass, named_first, named_later, still_there, counted_none}
+use Rattle.chomp.proofs.Passing.{Passes, some_map, rests_pass, named_later, still_there, counted_none}
 
 always : {A : Type 0} (P : A → Type 0) (o : Option A) → ((x : A) → P x) → IfSome o P
 always P None f = tt

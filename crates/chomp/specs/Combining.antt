@@ -1,5 +1,5 @@
 -- Two sets that are to be combined, and their union and intersection.
-use Rattle.std.specs.Prelude.{ℕ, ◌≤◌, List, length, Bool, ◌&&◌, ◌||◌, IsTrue}
+use Rattle.std.specs.Prelude.{◌≤◌, List, length, Bool, ◌&&◌, ◌||◌, IsTrue}
 use Rattle.elem_cubes.specs.Cells.{Factor}
 use Rattle.elem_cubes.specs.Order.{cell_cmp}
 use Rattle.grid_files.specs.Sets.{Members, holds, dimensions_agree}

@@ -1,4 +1,4 @@
-use Rattle.std.proofs.Common.{◌≡◌, List, [], ◌∷◌, Option, Ok, Err, ◌⊎◌, IfSome, subst}
+use Rattle.std.proofs.Common.{◌≡◌, [], ◌∷◌, Option, Ok, Err, ◌⊎◌, IfSome, subst}
 use Rattle.std.proofs.lemmas.Result.{err_from_is_err_and}
 use Rattle.outside.specs.Disk.{Disk}
 use Rattle.grid_files.specs.declared.fault.Kind.TheVariants.{Any}
