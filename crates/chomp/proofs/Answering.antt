@@ -1,5 +1,5 @@
 -- What a fault rests on decides the status.
-use Rattle.std.proofs.Common.{◌≡◌, ℕ, List, [], append-nil, Option, None, Some, Result, Ok, Err, IfErr, IfSome, Contains, refl, sym, subst, ◌⊎◌, inl, inr}
+use Rattle.std.proofs.Common.{◌≡◌, ℕ, List, [], append-nil, Option, None, Some, Result, Ok, Err, IfErr, IfSome, Contains, Bool, true, false, refl, sym, ap, ◌∙◌, subst, ◌⊎◌, inl, inr}
 use Rattle.outside.specs.Causes.{Rose}
 use Rattle.outside.specs.Disk.{Disk}
 use Rattle.outside.specs.Told.{Gains}
@@ -8,6 +8,7 @@ use Rattle.report.specs.declared.fault.Fault.TheVariants.{NoTool, NotAForm, Cann
 use Rattle.report.specs.declared.limit_name.LimitName.TheVariants.{FileBytes}
 use Rattle.report.specs.declared.reports.Report.{Report}
 use Rattle.report.specs.declared.reports.Report.TheVariants.{Pair, Chain, Set}
+use Rattle.report.specs.declared.reports.Shown.{Shown}
 use Rattle.report.specs.ReportText.{report_text}
 use Rattle.chomp.specs.declared.status.Status.{Status}
 use Rattle.chomp.specs.declared.status.Status.TheVariants as statuses
@@ -18,7 +19,7 @@ use Rattle.chomp.specs.declared.command.Input.TheVariants as inputs
 use Rattle.chomp.specs.Statuses.{status_of}
 use Rattle.chomp.specs.Words.{command_of, names_of, shown_of}
 use Rattle.chomp.specs.Refusal.{reading, IsInputOf, within_limits, IsJudged}
-use Rattle.chomp.specs.Right.{IsRight, IsRightButForCycles}
+use Rattle.chomp.specs.Right.{IsRight, IsRightButForCycles, IsRightAsShown}
 use Rattle.chomp.specs.Saying.{LoadRestsOn, RestsOn, IsAnswer, ReadFailed, Answers}
 use Rattle.chomp.proofs.Judging.{judged_once}
 
@@ -91,21 +92,32 @@ module _ (words : List (List ℕ)) (before now : List ℕ → ℕ) (had has : �
   rests_on_limit disk command input fault asked told (inl e) = inr (inl (command, asked, inr (input, told, e)))
   rests_on_limit disk command input fault asked told (inr e) = inr (inr e)
 
+-- the report of a command as it is printed without cycles
+abbrev plain : Command → Shown
+plain command = record { modulus = (shown_of command).modulus; cycles = false }
+
 -- a report that lacks only its cycles answers, where they are not printed
 pub answers : (words : List (List ℕ)) (disk : Option Disk) (command : Command) (input : Input) (report : Report) (text : List ℕ) → command_of words ≡ Ok command
-    → IfSome disk (λ disk. IsInputOf command (reading disk) (Ok input)) → within_limits input ≡ Ok input → IsRightButForCycles input report → text ≡ report_text report (shown_of command) → IsAnswer words disk text
+    → IfSome disk (λ disk. IsInputOf command (reading disk) (Ok input)) → within_limits input ≡ Ok input → IsRightAsShown (shown_of command).cycles input report → text ≡ report_text report (shown_of command) → IsAnswer words disk text
 answers words disk command input report text asked told within right is =
-    let w = whole command input report right is in
+    let w = as_shown (shown_of command).cycles refl right in
     (command, asked, input, judged disk told, w.0, w.1, w.2)
   where
     judged : (disk : Option Disk) → IfSome disk (λ disk. IsInputOf command (reading disk) (Ok input)) → IfSome disk (λ disk. IsJudged words (reading disk) (Ok input))
     judged None told = tt
     judged (Some held) told = (command, sym asked, (input, told, sym within))
 
-    whole : (command : Command) (input : Input) (report : Report) → IsRightButForCycles input report → text ≡ report_text report (shown_of command) → (R : Report) × IsRight input R × (text ≡ report_text R (shown_of command))
+    whole : (command : Command) (input : Input) (report : Report) → IsRightButForCycles input report → text ≡ report_text report (plain command) → (R : Report) × IsRight input R × (text ≡ report_text R (plain command))
     whole (commands.Homcubes job) (inputs.Homcubes given) (Pair pair) (cycles, right) is = (Pair (record { dimensions = pair.dimensions; cycles = cycles }), right, is)
     whole (commands.Homcubes job) (inputs.Homcubes given) (Chain dimensions cycles) right is = absurd right
     whole (commands.Homcubes job) (inputs.Homcubes given) (Set set) right is = absurd right
+
+    as_shown : (cycles : Bool) → cycles ≡ (shown_of command).cycles → IsRightAsShown cycles input report → (R : Report) × IsRight input R × (text ≡ report_text R (shown_of command))
+    as_shown true e right = (report, right, is)
+    as_shown false e right =
+        let same : shown_of command ≡ plain command = λ j. record { modulus = (shown_of command).modulus; cycles = sym e j } in
+        let w = whole command input report right (is ∙ ap (report_text report) same) in
+        (w.0, w.1, w.2 ∙ sym (ap (report_text w.0) same))
 
 abbrev pub failed : (B : Type 0) → Fault → Result B Fault
 failed B fault = Err fault

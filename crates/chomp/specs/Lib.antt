@@ -4,4 +4,5 @@ pub mod Words
 pub mod Refusal
 pub mod Right
 pub mod Counting
+pub mod ByDegree
 pub mod Saying

@@ -1,7 +1,7 @@
 -- What a report must be to be right. It speaks of the cells of the whole sets and of chains on them, and knows neither
 -- numbers of cells nor an elimination. (Kaczynski, Mischaikow, Mrozek: Computational Homology, Springer 2004, sections 2.2
 -- and 9.1)
-use Rattle.std.specs.Prelude.{◌≡◌, ℕ, ◌+◌, ◌<◌, ◌≤◌, ◌==◌, if◌then◌else◌, List, [], ◌∷◌, length, map, slice_index, slice_index_or}
+use Rattle.std.specs.Prelude.{◌≡◌, ℕ, ◌+◌, ◌<◌, ◌≤◌, ◌==◌, if◌then◌else◌, List, [], ◌∷◌, length, map, slice_index, slice_index_or, Bool, true, false}
 use Rattle.std.specs.List.{All}
 use Rattle.std.specs.List.Sorted.{IsStrictlySortedBy}
 use Rattle.elem_cubes.specs.Cells.{Factor}
@@ -61,3 +61,8 @@ IsPairRightButForCycles given report = ⊥
 
 abbrev pub IsRightButForCycles : Input → Report → Type 0
 IsRightButForCycles (Homcubes given) report = IsPairRightButForCycles given report
+
+-- where the cycles are printed a report is right, and else it may lack them
+abbrev pub IsRightAsShown : Bool → Input → Report → Type 0
+IsRightAsShown true input report = IsRight input report
+IsRightAsShown false input report = IsRightButForCycles input report

@@ -2,6 +2,7 @@
 #![tactic(auto)]
 
 mod arguments;
+mod bases;
 mod command;
 mod delivery;
 mod homcubes;

@@ -14,6 +14,8 @@ pub enum Tool {
 pub enum Choice {
     /// The modulus of the coefficients.
     Modulus,
+    /// That the cycles are printed.
+    Cycles,
 }
 
 impl Tool {
@@ -61,6 +63,7 @@ impl Tool {
         match self {
             Tool::Homcubes => match word {
                 "--mod" => Some(Choice::Modulus),
+                "--cycles" => Some(Choice::Cycles),
                 _ => None,
             },
         }
@@ -74,6 +77,7 @@ impl Choice {
     {
         match self {
             Choice::Modulus => true,
+            Choice::Cycles => false,
         }
     }
 
@@ -83,6 +87,8 @@ impl Choice {
     {
         match (self, other) {
             (Choice::Modulus, Choice::Modulus) => true,
+            (Choice::Cycles, Choice::Cycles) => true,
+            _ => false,
         }
     }
 }
