@@ -9,6 +9,7 @@ use Rattle.report.specs.declared.limit_name.LimitName.{LimitName}
 use Rattle.report.specs.declared.limit_name.LimitName.TheVariants.{FileBytes, Cubes, Cells, Coordinates}
 use Rattle.report.specs.declared.reports.Report.{Report}
 use Rattle.report.specs.declared.reports.Report.TheVariants.{Pair, Chain, Set}
+use Rattle.report.specs.declared.reports.Shown.{Shown}
 use Rattle.report.specs.ReportText.{report_text}
 use Rattle.chomp.specs.declared.status.Status.{Status}
 use Rattle.chomp.specs.declared.status.Status.TheVariants as statuses
@@ -25,10 +26,10 @@ use Rattle.cell_complex.specs.Gathering.{cell_count}
 use Rattle.chomp.specs.declared.tool.Tool.{Tool}
 use Rattle.chomp.specs.Combining.{combined_of}
 use Rattle.chomp.specs.Forms.{tool_named, form_read}
-use Rattle.chomp.specs.Words.{formed, job_of, command_with, command_of, names_of, plain, shown_of}
+use Rattle.chomp.specs.Words.{formed, job_of, command_with, command_of, names_of, shown_of}
 use Rattle.chomp.specs.Refusal.{reading, IsInputOf, most_cubes, most_cells, greatest_end, within_cells, within_cubes, as_input, within_limits, IsJudged}
 use Rattle.chomp.specs.declared.homcubes.Given.{Given}
-use Rattle.chomp.specs.Right.{IsRight, IsPairRightButForCycles, IsRightButForCycles}
+use Rattle.chomp.specs.Right.{IsRight, IsPairRightButForCycles, IsRightAsShown}
 use Rattle.chomp.specs.Saying.{LoadRestsOn, RestsOn, IsAnswer, ReadFailed, Answers}
 use Rattle.chomp.proofs.Judging.{judged_once}
 
@@ -101,11 +102,15 @@ module _ (words : List (List ℕ)) (before now : List ℕ → ℕ) (had has : �
   rests_on_limit disk command input fault asked told (inl e) = inr (inl (command, asked, inr (input, told, e)))
   rests_on_limit disk command input fault asked told (inr e) = inr (inr e)
 
+-- the report of a command as it is printed without cycles
+abbrev without_cycles : Command → Shown
+without_cycles command = record { modulus = (shown_of command).modulus; cycles = false }
+
 -- a report that lacks only its cycles answers, where they are not printed
 pub answers : (words : List (List ℕ)) (disk : Option Disk) (command : Command) (input : Input) (report : Report) (text : List ℕ) → command_of words ≡ Ok command
-    → IfSome disk (λ disk. IsInputOf command (reading disk) (Ok input)) → within_limits input ≡ Ok input → IsRightButForCycles input report → text ≡ report_text report (shown_of command) → IsAnswer words disk text
+    → IfSome disk (λ disk. IsInputOf command (reading disk) (Ok input)) → within_limits input ≡ Ok input → IsRightAsShown (shown_of command).cycles input report → text ≡ report_text report (shown_of command) → IsAnswer words disk text
 answers words disk command input report text asked told within right is =
-    let w = whole command input report right is in
+    let w = as_shown input (shown_of command).cycles refl right in
     (command, asked, input, judged disk told, w.0, w.1, w.2)
   where
     judged : (disk : Option Disk) → IfSome disk (λ disk. IsInputOf command (reading disk) (Ok input)) → IfSome disk (λ disk. IsJudged words (reading disk) (Ok input))
@@ -113,21 +118,20 @@ answers words disk command input report text asked told within right is =
     judged (Some held) told = (command, sym asked, (input, told, sym within))
 
     -- what is not asked to show cycles says the same with them
-    uncycled : (given : Given) (report : Report) → IsPairRightButForCycles given report → text ≡ report_text report plain → (R : Report) × IsRight (inputs.Homcubes given) R × (text ≡ report_text R plain)
+    uncycled : (given : Given) (report : Report) → IsPairRightButForCycles given report → text ≡ report_text report (without_cycles command) → (R : Report) × IsRight (inputs.Homcubes given) R × (text ≡ report_text R (without_cycles command))
     uncycled given (Pair pair) (cycles, right) is = (Pair (record { dimensions = pair.dimensions; cycles = cycles }), right, is)
     uncycled given (Chain dimensions cycles) right is = absurd right
     uncycled given (Set set) right is = absurd right
 
-    whole : (command : Command) (input : Input) (report : Report) → IsRightButForCycles input report → text ≡ report_text report (shown_of command) → (R : Report) × IsRight input R × (text ≡ report_text R (shown_of command))
-    whole (commands.Homcubes job) (inputs.Homcubes given) (Pair pair) (cycles, right) is = (Pair (record { dimensions = pair.dimensions; cycles = cycles }), right, is)
-    whole (commands.Homcubes job) (inputs.Homcubes given) (Chain dimensions cycles) right is = absurd right
-    whole (commands.Homcubes job) (inputs.Homcubes given) (Set set) right is = absurd right
-    whole (commands.Combine files) (inputs.Homcubes given) report right is = uncycled given report right is
-    whole (commands.Cubnbhd x) (inputs.Homcubes given) report right is = uncycled given report right is
-    whole (commands.Cubcells x) (inputs.Homcubes given) report right is = uncycled given report right is
-    whole command (inputs.Combine sets) report right is = (report, right, is)
-    whole command (inputs.Cubnbhd set) report right is = (report, right, is)
-    whole command (inputs.Cubcells set) report right is = (report, right, is)
+    as_shown : (input : Input) (cycles : Bool) → cycles ≡ (shown_of command).cycles → IsRightAsShown cycles input report → (R : Report) × IsRight input R × (text ≡ report_text R (shown_of command))
+    as_shown (inputs.Homcubes given) true e right = (report, right, is)
+    as_shown (inputs.Homcubes given) false e right =
+        let same : shown_of command ≡ without_cycles command = λ j. record { modulus = (shown_of command).modulus; cycles = sym e j } in
+        let w = uncycled given report right (is ∙ ap (report_text report) same) in
+        (w.0, w.1, w.2 ∙ sym (ap (report_text w.0) same))
+    as_shown (inputs.Combine sets) cycles e right = (report, right, is)
+    as_shown (inputs.Cubnbhd set) cycles e right = (report, right, is)
+    as_shown (inputs.Cubcells set) cycles e right = (report, right, is)
 
 abbrev pub failed : (B : Type 0) → Fault → Result B Fault
 failed B fault = Err fault

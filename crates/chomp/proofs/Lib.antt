@@ -3,6 +3,7 @@ pub mod Printing
 pub mod Cycles
 pub mod Counting
 pub mod RightPairs
+pub mod RightBases
 pub mod Judging
 pub mod Passing
 pub mod PassingSets

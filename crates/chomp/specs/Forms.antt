@@ -7,7 +7,7 @@ use Rattle.std.specs.declared.string.String.{String}
 use Rattle.chomp.specs.declared.tool.Tool.{Tool}
 use Rattle.chomp.specs.declared.tool.Tool.TheVariants.{Homcubes, Cubunion, Cubinter, Cubnbhd, Cubcells}
 use Rattle.chomp.specs.declared.tool.Choice.{Choice}
-use Rattle.chomp.specs.declared.tool.Choice.TheVariants.{Modulus}
+use Rattle.chomp.specs.declared.tool.Choice.TheVariants.{Modulus, Cycles}
 use Rattle.chomp.specs.declared.words.Next.{Next}
 use Rattle.chomp.specs.declared.words.Next.TheVariants.{Anything, ValueOf, OperandsAlone}
 use Rattle.chomp.specs.declared.words.Said.{Said}
@@ -25,7 +25,7 @@ pub record Form : Type 0 where
   pub options : List Choice
 
 abbrev pub form_of : Tool → Form
-form_of Homcubes = record { name = codes "homcubes"; fewest = 1; most = 2; options = Modulus ∷ [] }
+form_of Homcubes = record { name = codes "homcubes"; fewest = 1; most = 2; options = Modulus ∷ Cycles ∷ [] }
 form_of Cubunion = record { name = codes "cubunion"; fewest = 2; most = 2; options = [] }
 form_of Cubinter = record { name = codes "cubinter"; fewest = 2; most = 2; options = [] }
 form_of Cubnbhd = record { name = codes "cubnbhd"; fewest = 1; most = 1; options = [] }
@@ -37,9 +37,11 @@ tools = Homcubes ∷ Cubunion ∷ Cubinter ∷ Cubnbhd ∷ Cubcells ∷ []
 -- an option: its name, and whether it takes a value
 abbrev pub option_name : Choice → List ℕ
 option_name Modulus = codes "--mod"
+option_name Cycles = codes "--cycles"
 
 abbrev pub takes_value : Choice → Bool
 takes_value Modulus = true
+takes_value Cycles = false
 
 -- the first entry of a list that has this name
 abbrev pub named : {A : Type 0} → (A → List ℕ) → List A → List ℕ → Option A
@@ -145,6 +147,8 @@ words_read tool next (word ∷ words) = word_first (word_read tool next word) (�
 -- each option stands once
 abbrev pub same_choice : Choice → Choice → Bool
 same_choice Modulus Modulus = true
+same_choice Cycles Cycles = true
+same_choice choice other = false
 
 abbrev pub is_set : Choice → List Setting → Bool
 is_set choice settings = list_any (λ s. same_choice s.choice choice) settings

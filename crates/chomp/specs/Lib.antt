@@ -5,4 +5,5 @@ pub mod Combining
 pub mod Refusal
 pub mod Right
 pub mod Counting
+pub mod ByDegree
 pub mod Saying

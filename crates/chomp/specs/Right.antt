@@ -1,7 +1,7 @@
 -- What a report must be to be right. It speaks of the cells of the whole sets and of chains on them, and knows neither
 -- numbers of cells nor an elimination. (Kaczynski, Mischaikow, Mrozek: Computational Homology, Springer 2004, sections 2.2
 -- and 9.1)
-use Rattle.std.specs.Prelude.{◌≡◌, ℕ, Bool, ◌+◌, ◌<◌, ◌≤◌, ◌==◌, if◌then◌else◌, List, [], ◌∷◌, length, map, slice_index, slice_index_or}
+use Rattle.std.specs.Prelude.{◌≡◌, ℕ, ◌+◌, ◌<◌, ◌≤◌, ◌==◌, if◌then◌else◌, List, [], ◌∷◌, length, map, slice_index, slice_index_or, Bool, true, false}
 use Rattle.std.specs.List.{All}
 use Rattle.std.specs.List.Sorted.{IsStrictlySortedBy}
 use Rattle.elem_cubes.specs.Cells.{Factor}
@@ -87,8 +87,14 @@ abbrev pub IsPairRightButForCycles : Given → Report → Type 0
 IsPairRightButForCycles given (Pair pair) = HasDimensions given.modulus (common_dimension given.x given.a) given.x.cells given.a.cells pair.dimensions
 IsPairRightButForCycles given report = ⊥
 
-abbrev pub IsRightButForCycles : Input → Report → Type 0
-IsRightButForCycles (Homcubes given) report = IsPairRightButForCycles given report
-IsRightButForCycles (Combine sets) report = IsCombinationOf sets report
-IsRightButForCycles (Cubnbhd set) report = IsNeighbourhoodOf set report
-IsRightButForCycles (Cubcells set) report = IsClosureOf set report
+-- where the cycles are printed the report on a pair is right, and else it may lack them
+abbrev pub IsPairRightAsShown : Bool → Given → Report → Type 0
+IsPairRightAsShown true given report = IsRight (Homcubes given) report
+IsPairRightAsShown false given report = IsPairRightButForCycles given report
+
+-- the same of any report; one that is a set has no cycles
+abbrev pub IsRightAsShown : Bool → Input → Report → Type 0
+IsRightAsShown cycles (Homcubes given) report = IsPairRightAsShown cycles given report
+IsRightAsShown cycles (Combine sets) report = IsCombinationOf sets report
+IsRightAsShown cycles (Cubnbhd set) report = IsNeighbourhoodOf set report
+IsRightAsShown cycles (Cubcells set) report = IsClosureOf set report

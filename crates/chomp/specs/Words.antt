@@ -1,5 +1,5 @@
 -- What the words of the command line ask for.
-use Rattle.std.specs.Prelude.{ℕ, List, [], ◌∷◌, Option, None, Some, Result, Ok, Err, decimal, false, length}
+use Rattle.std.specs.Prelude.{ℕ, List, [], ◌∷◌, Option, None, Some, Result, Ok, Err, Bool, decimal, length}
 use Rattle.std.specs.Option.{option_map, option_and_then}
 use Rattle.field_mod.specs.Moduli.{moduli}
 use Rattle.report.specs.declared.fault.Fault.{Fault}
@@ -8,7 +8,7 @@ use Rattle.report.specs.declared.reports.Shown.{Shown}
 use Rattle.chomp.specs.declared.tool.Tool.{Tool}
 use Rattle.chomp.specs.declared.tool.Tool.TheVariants as tools
 use Rattle.chomp.specs.declared.tool.Choice.{Choice}
-use Rattle.chomp.specs.declared.tool.Choice.TheVariants.{Modulus}
+use Rattle.chomp.specs.declared.tool.Choice.TheVariants.{Modulus, Cycles}
 use Rattle.chomp.specs.declared.arguments.Setting.{Setting}
 use Rattle.chomp.specs.declared.homcubes.Job.{Job}
 use Rattle.chomp.specs.declared.command.Command.{Command}
@@ -16,7 +16,7 @@ use Rattle.chomp.specs.declared.command.Command.TheVariants.{Homcubes, Combine, 
 use Rattle.chomp.specs.declared.combine.Combination.{Combination}
 use Rattle.chomp.specs.declared.combine.Combination.TheVariants.{Union, Intersection}
 use Rattle.chomp.specs.declared.combine.TwoFiles.{TwoFiles}
-use Rattle.chomp.specs.Forms.{Spoken, form_of, named, tool_named, form_read}
+use Rattle.chomp.specs.Forms.{Spoken, form_of, named, tool_named, form_read, is_set}
 
 -- what was found, or that the words are not of the tool's form
 abbrev pub formed : {A : Type 0} → Tool → Option A → Result A Fault
@@ -30,20 +30,21 @@ modulus_named (Some word) = named decimal moduli word
 
 abbrev pub modulus_of : Choice → Option (List ℕ) → Option ℕ → Option ℕ
 modulus_of Modulus value others = modulus_named value
+modulus_of Cycles value others = others
 
 -- the modulus that the options set; without one it is 2
 abbrev pub modulus_in : List Setting → Option ℕ
 modulus_in [] = Some 2
 modulus_in (s ∷ ss) = modulus_of s.choice s.value (modulus_in ss)
 
--- what the words ask of `homcubes`: the homology of a set, or of a set and a subset
-abbrev pub pair_job : List (List ℕ) → ℕ → Option Job
-pair_job (x ∷ []) modulus = Some (record { x = x; a = None; modulus = modulus })
-pair_job (x ∷ a ∷ []) modulus = Some (record { x = x; a = Some a; modulus = modulus })
-pair_job operands modulus = None
+-- what the words ask of `homcubes`: the homology of a set, or of a set and a subset, and whether its cycles are printed
+abbrev pub pair_job : List (List ℕ) → Bool → ℕ → Option Job
+pair_job (x ∷ []) cycles modulus = Some (record { x = x; a = None; modulus = modulus; cycles = cycles })
+pair_job (x ∷ a ∷ []) cycles modulus = Some (record { x = x; a = Some a; modulus = modulus; cycles = cycles })
+pair_job operands cycles modulus = None
 
 abbrev pub homcubes_job : Spoken → Option Job
-homcubes_job spoken = option_and_then (pair_job spoken.operands) (modulus_in spoken.settings)
+homcubes_job spoken = option_and_then (pair_job spoken.operands (is_set Cycles spoken.settings)) (modulus_in spoken.settings)
 
 -- what the words ask of `cubunion` and `cubinter`: to combine two sets
 abbrev pub two_files : Combination → List (List ℕ) → Option TwoFiles
@@ -96,7 +97,7 @@ plain = record { modulus = 2; cycles = false }
 
 -- how the report of a command is printed
 abbrev pub shown_of : Command → Shown
-shown_of (Homcubes job) = record { modulus = job.modulus; cycles = false }
+shown_of (Homcubes job) = record { modulus = job.modulus; cycles = job.cycles }
 shown_of (Combine files) = plain
 shown_of (Cubnbhd x) = plain
 shown_of (Cubcells x) = plain

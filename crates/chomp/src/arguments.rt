@@ -134,8 +134,8 @@ fn are_once(settings: &[Setting]) -> bool
     true
 }
 
-// Whether the option is set.
-fn is_set(choice: Choice, settings: &[Setting]) -> bool
+/// Whether the option is set.
+pub fn is_set(choice: Choice, settings: &[Setting]) -> bool
     ensures { result ≡ is_set choice settings.now }
 {
     settings.iter().any(|setting| setting.choice.is(choice))

@@ -5,7 +5,7 @@ ghost use Rattle.chomp.specs.Forms.{spoken};
 ghost use Rattle.chomp.specs.Words.{command_of, command_with, names_of, shown_of};
 ghost use Rattle.chomp.specs.Refusal.{IsInputOf, within_limits, reading, file_bytes};
 ghost use Rattle.chomp.specs.Saying.{LoadRestsOn, IsDue};
-ghost use Rattle.chomp.specs.Right.{IsRightButForCycles};
+ghost use Rattle.chomp.specs.Right.{IsRightAsShown};
 
 use crate::arguments::arguments_of;
 use crate::combine::{self, Combination, TwoFiles, TwoSets};
@@ -93,15 +93,15 @@ pub fn load<F: Files>(alloc: Global, files: &mut F, command: &Command) -> Result
     }
 }
 
-/// The report on what the files give, or the first limit that refuses it.
-pub fn compute(alloc: Global, input: &Input) -> Result<Report, Fault>
-    ensures report { IfOk result (IsRightButForCycles input.now) }
+/// The report on what the files give, with cycles where they are printed, or the first limit that refuses it.
+pub fn compute(alloc: Global, input: &Input, cycles: bool) -> Result<Report, Fault>
+    ensures report { IfOk result (IsRightAsShown cycles input.now) }
     ensures text { IfOk result HasText }
     ensures within { OnOk result (within_limits input.now ≡ Ok input.now) }
     ensures fault { IfErr result (λ fault. (within_limits input.now ≡ Err fault) ⊎ (fault ≡ Fault.OutOfMemory)) }
 {
     match input {
-        Input::Homcubes(given) => homcubes::compute(alloc, given),
+        Input::Homcubes(given) => homcubes::compute(alloc, given, cycles),
         Input::Combine(sets) => combine::compute(alloc, sets),
         Input::Cubnbhd(cubes) => cubnbhd::compute(alloc, cubes),
         Input::Cubcells(set) => cubcells::compute(alloc, set),
@@ -116,7 +116,7 @@ impl Command {
         match self {
             Command::Homcubes(job) => Shown {
                 modulus: job.modulus.number(),
-                cycles: false,
+                cycles: job.cycles,
             },
             Command::Combine(_) | Command::Cubnbhd(_) | Command::Cubcells(_) => Shown {
                 modulus: Modulus::usual().number(),

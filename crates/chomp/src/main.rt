@@ -2,6 +2,7 @@
 #![tactic(auto)]
 
 mod arguments;
+mod bases;
 mod combine;
 mod command;
 mod cubcells;

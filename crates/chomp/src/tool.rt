@@ -22,6 +22,8 @@ pub enum Tool {
 pub enum Choice {
     /// The modulus of the coefficients.
     Modulus,
+    /// That the cycles are printed.
+    Cycles,
 }
 
 impl Tool {
@@ -79,6 +81,7 @@ impl Tool {
         match self {
             Tool::Homcubes => match word {
                 "--mod" => Some(Choice::Modulus),
+                "--cycles" => Some(Choice::Cycles),
                 _ => None,
             },
             Tool::Cubunion | Tool::Cubinter | Tool::Cubnbhd | Tool::Cubcells => None,
@@ -93,6 +96,7 @@ impl Choice {
     {
         match self {
             Choice::Modulus => true,
+            Choice::Cycles => false,
         }
     }
 
@@ -102,6 +106,8 @@ impl Choice {
     {
         match (self, other) {
             (Choice::Modulus, Choice::Modulus) => true,
+            (Choice::Cycles, Choice::Cycles) => true,
+            _ => false,
         }
     }
 }
