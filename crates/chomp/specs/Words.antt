@@ -1,5 +1,5 @@
 -- What the words of the command line ask for.
-use Rattle.std.specs.Prelude.{ℕ, List, [], ◌∷◌, Option, None, Some, Result, Ok, Err, Bool, decimal, length}
+use Rattle.std.specs.Prelude.{ℕ, List, [], ◌∷◌, Option, None, Some, Result, Ok, Err, Bool, false, decimal, length}
 use Rattle.std.specs.Option.{option_map, option_and_then}
 use Rattle.field_mod.specs.Moduli.{moduli}
 use Rattle.report.specs.declared.fault.Fault.{Fault}
