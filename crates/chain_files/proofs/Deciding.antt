@@ -1,5 +1,5 @@
 -- Tests on numbers, and what they tell.
-use Rattle.std.proofs.Common.{◌≡◌, ◌≤◌, ℕ, ◌%◌, ⊎_elim, true, false, refl, arith}
+use Rattle.std.proofs.Common.{◌≡◌, ◌≤◌, ◌&&◌, ℕ, ◌%◌, ⊎_elim, true, false, refl, arith}
 use Rattle.std.specs.Prelude.{nat_le, Bool}
 use Rattle.std.proofs.lemmas.Bool.Decides.{leb_tells}
 
@@ -15,3 +15,7 @@ zero_mod p = omega arith
 pub on_test : {R : Type 0} (b : Bool) → (b ≡ true → R) → (b ≡ false → R) → R
 on_test true f g = f refl
 on_test false f g = g refl
+
+pub and_both : (a b : Bool) → (a && b) ≡ true → (a ≡ true) × (b ≡ true)
+and_both true b h = (refl, h)
+and_both false b h = cc

@@ -15,7 +15,7 @@ use Rattle.chain_files.specs.declared.block.Block.{Block}
 use Rattle.chain_files.specs.declared.fault.ChainCause.{ChainCause}
 use Rattle.chain_files.specs.declared.fault.ChainCause.TheVariants.{BadNumber, UnknownGenerator, RepeatedGenerator, TooManyGenerators}
 use Rattle.chain_files.specs.declared.fault.TheConstants.{GENERATORS, MAX_DEGREE}
-use Rattle.chain_files.proofs.Deciding.{le_told, on_test}
+use Rattle.chain_files.proofs.Deciding.{le_told, on_test, and_both}
 use Rattle.chain_files.proofs.Files.{terms_at}
 
 abbrev IsIn : ℕ → Block → Type 0
@@ -50,10 +50,6 @@ refused cause now e = cc
 
 ok_is : (x now : Known) → okay x ≡ okay now → x ≡ now
 ok_is x now e = cc
-
-and_both : (a b : Bool) → (a && b) ≡ true → (a ≡ true) × (b ≡ true)
-and_both true b h = (refl, h)
-and_both false b h = cc
 
 some_is : (b : Bool) (n h : ℕ) → cond b (Some n) None ≡ Some h → (b ≡ true) × (n ≡ h)
 some_is true n h e = (refl, cc)

@@ -9,3 +9,4 @@ pub mod Gathering
 pub mod Counting
 pub mod Files
 pub mod Grading
+pub mod Alike

@@ -17,7 +17,7 @@ use Rattle.chain_files.specs.declared.fault.ChainCause.{ChainCause}
 use Rattle.chain_files.specs.declared.fault.ChainCause.TheVariants.{BadByte, BadNumber, TooManyTerms, Unclosed}
 use Rattle.chain_files.specs.declared.fault.TheConstants.{TERMS}
 use Rattle.chain_files.specs.declared.words.TheConstants.{CHAIN, COMPLEX, MAX, DIMENSION}
-use Rattle.chain_files.proofs.Deciding.{le_told, zero_mod, on_test}
+use Rattle.chain_files.proofs.Deciding.{le_told, zero_mod, on_test, and_both}
 use Rattle.chain_files.proofs.Refusing.{read_end, read_unclosed}
 use Rattle.chain_files.proofs.Following.{Rest, Token, Made, AtDegree, AtTimes, AtCoefficient, AtFirst, AtEquals, AtGenerator, Follows}
 
@@ -27,10 +27,6 @@ On x f = next x f (λ place cause. Err (place, cause))
 
 err_is_no_ok : (e : ℕ × ChainCause) (content : Content) → Err e ≡ Ok content → ⊥
 err_is_no_ok e content h = cc
-
-and_both : (a b : Bool) → (a && b) ≡ true → (a ≡ true) × (b ≡ true)
-and_both true b h = (refl, h)
-and_both false b h = cc
 
 module _ (f : Known → Due → Outcome) (content : Content) where
   found : (b : Bool) (x : Step) (place : ℕ) (cause : ChainCause) → On (cond b x (stops place cause)) f ≡ Ok content → (b ≡ true) × (On x f ≡ Ok content)

@@ -27,6 +27,10 @@ pub record IsFileComplex (p : ℕ) (content : Content) (file : FileComplex) : Ty
   pub incidences : (h g : ℕ) → h < length content.boundaries
       → incidence file.complex.boundaries h g ≡ incidence (terms_of content.boundaries) h g % p
 
+-- The generators and terms as they stand in the file, where the terms of one generator are neither summed nor sorted.
+abbrev pub listed : Content → ChainComplex
+listed content = record { degrees = content.degrees; boundaries = terms_of content.boundaries }
+
 -- The number of a generator in its degree, from 1 on: how many generators up to it have that degree.
 abbrev pub number_in_degree : List ℕ → ℕ → ℕ
 number_in_degree degrees h = count_in (take h degrees) (slice_index degrees h) + 1

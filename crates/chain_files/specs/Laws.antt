@@ -1,7 +1,9 @@
--- The law of chain files: modulo p, a text has exactly one value, or is refused at exactly one place with one cause.
-use Rattle.std.specs.Prelude.{◌≡◌, ◌⊎◌, ℕ, List}
+-- The laws of chain files. Modulo p, a text has exactly one value, or is refused at exactly one place with one cause.
+use Rattle.std.specs.Prelude.{◌≡◌, ◌⊎◌, ◌↔◌, ℕ, List}
+use Rattle.chains.specs.ChainComplex.{IsBasisOf}
 use Rattle.chain_files.specs.Content.{Content}
 use Rattle.chain_files.specs.ChainFile.{HasValue, IsRefusedAt}
+use Rattle.chain_files.specs.Complexes.{FileComplex, IsFileComplex, listed}
 use Rattle.chain_files.specs.declared.fault.ChainCause.{ChainCause}
 
 pub record TextsHaveOneOutcome : Type 0 where
@@ -11,3 +13,8 @@ pub record TextsHaveOneOutcome : Type 0 where
   pub one_place : (p : ℕ) (text : List ℕ) (place other : ℕ) (cause why : ChainCause)
       → IsRefusedAt p text place cause → IsRefusedAt p text other why → (place ≡ other) × (cause ≡ why)
   pub never_both : (p : ℕ) (text : List ℕ) (content : Content) (place : ℕ) (cause : ChainCause) → HasValue p text content → ¬ IsRefusedAt p text place cause
+
+-- A basis of the homology of the complex of a file is one of what stands in the file, and the other way round.
+abbrev pub BasesAreOfTheFile : Type 0
+BasesAreOfTheFile = (p k : ℕ) (content : Content) (file : FileComplex) (zs : List (List (ℕ × ℕ))) → IsFileComplex p content file
+    → (IsBasisOf p file.complex k zs ↔ IsBasisOf p (listed content) k zs)

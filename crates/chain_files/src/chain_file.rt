@@ -62,7 +62,8 @@ impl<const P: u16> ChainFile<P> {
 }
 
 /// The complex of a chain file: the value of the text, or the place and the cause of its refusal, or where its boundary of a
-/// boundary is not 0 first, by degree, generator and place.
+/// boundary is not 0 first, by degree, generator and place. Terms are sorted; else the work grows with the text, and with the number
+/// of terms of boundaries of boundaries.
 pub fn read_complex<const P: u16>(
     alloc: Global,
     field: Field<P>,

@@ -1,5 +1,5 @@
 //! Chain files that are read.
-use crate::{ChainFault, read_complex};
+use crate::{ChainFault, bases_are_of_the_file, read_complex, texts_have_one_outcome};
 use field_mod::Field;
 use std::alloc::Global;
 
@@ -152,4 +152,10 @@ fn boundaries_of_boundaries(rt: HostRuntime) {
             "in {rest:?}"
         );
     }
+}
+
+#[test]
+fn laws_hold() {
+    texts_have_one_outcome();
+    bases_are_of_the_file();
 }

@@ -1,13 +1,15 @@
 -- What a fault rests on decides the status.
-use Rattle.std.proofs.Common.{◌≡◌, ℕ, List, [], append-nil, Option, None, Some, Result, Ok, Err, IfErr, IfSome, Contains, refl, sym, subst, ◌⊎◌, inl, inr}
+use Rattle.std.proofs.Common.{◌≡◌, ℕ, Bool, true, false, cond, length, nat_lt, List, [], ◌∷◌, ◌++◌, append-nil, Option, None, Some, Result, Ok, Err, IfErr, IfSome, Contains, refl, sym, ap, ◌∙◌, subst, ◌⊎◌, inl, inr}
 use Rattle.outside.specs.Causes.{Rose}
 use Rattle.outside.specs.Disk.{Disk}
 use Rattle.outside.specs.Told.{Gains}
 use Rattle.report.specs.declared.fault.Fault.{Fault}
 use Rattle.report.specs.declared.fault.Fault.TheVariants.{NoTool, NotAForm, CannotRead, BadText, NotComplex, Dimension, Limit, CannotWriteOut, OutOfMemory}
-use Rattle.report.specs.declared.limit_name.LimitName.TheVariants.{FileBytes}
+use Rattle.report.specs.declared.limit_name.LimitName.{LimitName}
+use Rattle.report.specs.declared.limit_name.LimitName.TheVariants.{FileBytes, Cubes, Cells, Coordinates}
 use Rattle.report.specs.declared.reports.Report.{Report}
 use Rattle.report.specs.declared.reports.Report.TheVariants.{Pair, Chain, Set}
+use Rattle.report.specs.declared.reports.Shown.{Shown}
 use Rattle.report.specs.ReportText.{report_text}
 use Rattle.chomp.specs.declared.status.Status.{Status}
 use Rattle.chomp.specs.declared.status.Status.TheVariants as statuses
@@ -16,9 +18,18 @@ use Rattle.chomp.specs.declared.command.Command.TheVariants as commands
 use Rattle.chomp.specs.declared.command.Input.{Input}
 use Rattle.chomp.specs.declared.command.Input.TheVariants as inputs
 use Rattle.chomp.specs.Statuses.{status_of}
-use Rattle.chomp.specs.Words.{command_of, names_of, shown_of}
-use Rattle.chomp.specs.Refusal.{reading, IsInputOf, within_limits, IsJudged}
-use Rattle.chomp.specs.Right.{IsRight, IsRightButForCycles}
+use Rattle.std.specs.Option.{option_and_then}
+use Rattle.elem_cubes.specs.Cells.{Factor}
+use Rattle.grid_files.specs.Closures.{cells_of}
+use Rattle.grid_files.specs.Neighbours.{neighbours_of, are_in_range}
+use Rattle.cell_complex.specs.Gathering.{cell_count}
+use Rattle.chomp.specs.declared.tool.Tool.{Tool}
+use Rattle.chomp.specs.Combining.{combined_of}
+use Rattle.chomp.specs.Forms.{tool_named, form_read}
+use Rattle.chomp.specs.Words.{formed, job_of, command_with, command_of, names_of, shown_of}
+use Rattle.chomp.specs.Refusal.{reading, IsInputOf, most_cubes, most_cells, greatest_end, within_cells, within_cubes, as_input, within_limits, IsJudged}
+use Rattle.chomp.specs.declared.homcubes.Given.{Given}
+use Rattle.chomp.specs.Right.{IsRight, IsPairRightButForCycles, IsRightAsShown}
 use Rattle.chomp.specs.Saying.{LoadRestsOn, RestsOn, IsAnswer, ReadFailed, Answers}
 use Rattle.chomp.proofs.Judging.{judged_once}
 
@@ -91,21 +102,36 @@ module _ (words : List (List ℕ)) (before now : List ℕ → ℕ) (had has : �
   rests_on_limit disk command input fault asked told (inl e) = inr (inl (command, asked, inr (input, told, e)))
   rests_on_limit disk command input fault asked told (inr e) = inr (inr e)
 
+-- the report of a command as it is printed without cycles
+abbrev without_cycles : Command → Shown
+without_cycles command = record { modulus = (shown_of command).modulus; cycles = false }
+
 -- a report that lacks only its cycles answers, where they are not printed
 pub answers : (words : List (List ℕ)) (disk : Option Disk) (command : Command) (input : Input) (report : Report) (text : List ℕ) → command_of words ≡ Ok command
-    → IfSome disk (λ disk. IsInputOf command (reading disk) (Ok input)) → within_limits input ≡ Ok input → IsRightButForCycles input report → text ≡ report_text report (shown_of command) → IsAnswer words disk text
+    → IfSome disk (λ disk. IsInputOf command (reading disk) (Ok input)) → within_limits input ≡ Ok input → IsRightAsShown (shown_of command).cycles input report → text ≡ report_text report (shown_of command) → IsAnswer words disk text
 answers words disk command input report text asked told within right is =
-    let w = whole command input report right is in
+    let w = as_shown input (shown_of command).cycles refl right in
     (command, asked, input, judged disk told, w.0, w.1, w.2)
   where
     judged : (disk : Option Disk) → IfSome disk (λ disk. IsInputOf command (reading disk) (Ok input)) → IfSome disk (λ disk. IsJudged words (reading disk) (Ok input))
     judged None told = tt
     judged (Some held) told = (command, sym asked, (input, told, sym within))
 
-    whole : (command : Command) (input : Input) (report : Report) → IsRightButForCycles input report → text ≡ report_text report (shown_of command) → (R : Report) × IsRight input R × (text ≡ report_text R (shown_of command))
-    whole (commands.Homcubes job) (inputs.Homcubes given) (Pair pair) (cycles, right) is = (Pair (record { dimensions = pair.dimensions; cycles = cycles }), right, is)
-    whole (commands.Homcubes job) (inputs.Homcubes given) (Chain dimensions cycles) right is = absurd right
-    whole (commands.Homcubes job) (inputs.Homcubes given) (Set set) right is = absurd right
+    -- what is not asked to show cycles says the same with them
+    uncycled : (given : Given) (report : Report) → IsPairRightButForCycles given report → text ≡ report_text report (without_cycles command) → (R : Report) × IsRight (inputs.Homcubes given) R × (text ≡ report_text R (without_cycles command))
+    uncycled given (Pair pair) (cycles, right) is = (Pair (record { dimensions = pair.dimensions; cycles = cycles }), right, is)
+    uncycled given (Chain dimensions cycles) right is = absurd right
+    uncycled given (Set set) right is = absurd right
+
+    as_shown : (input : Input) (cycles : Bool) → cycles ≡ (shown_of command).cycles → IsRightAsShown cycles input report → (R : Report) × IsRight input R × (text ≡ report_text R (shown_of command))
+    as_shown (inputs.Homcubes given) true e right = (report, right, is)
+    as_shown (inputs.Homcubes given) false e right =
+        let same : shown_of command ≡ without_cycles command = λ j. record { modulus = (shown_of command).modulus; cycles = sym e j } in
+        let w = uncycled given report right (is ∙ ap (report_text report) same) in
+        (w.0, w.1, w.2 ∙ sym (ap (report_text w.0) same))
+    as_shown (inputs.Combine sets) cycles e right = (report, right, is)
+    as_shown (inputs.Cubnbhd set) cycles e right = (report, right, is)
+    as_shown (inputs.Cubcells set) cycles e right = (report, right, is)
 
 abbrev pub failed : (B : Type 0) → Fault → Result B Fault
 failed B fault = Err fault
@@ -128,3 +154,59 @@ said_rests words disk before now had has fault said r (inr e) = inr (inr e)
 pub gains_nothing : (told : Option (List ℕ)) → Gains told told []
 gains_nothing None = tt
 gains_nothing (Some bytes) = sym (append-nil bytes)
+
+-- ---- a fault that comes up before the writing is not that of a failed write
+
+formed_so : {A : Type 0} (tool : Tool) (o : Option A) → formed tool o ≡ Err CannotWriteOut → ⊥
+formed_so tool None e = cc
+formed_so tool (Some x) e = cc
+
+tool_so : (words : List (List ℕ)) (tool : Option Tool) → command_with tool words ≡ Err CannotWriteOut → ⊥
+tool_so words None e = cc
+tool_so words (Some tool) e = formed_so tool (option_and_then (job_of tool) (form_read tool words)) e
+
+words_so : (words : List (List ℕ)) → command_of words ≡ Err CannotWriteOut → ⊥
+words_so [] e = cc
+words_so (name ∷ words) e = tool_so words (tool_named name) e
+
+limit_so : {A : Type 0} (b : Bool) (count : LimitName) (number : ℕ) (x : A) → cond b (Err (Limit count number)) (Ok x) ≡ Err CannotWriteOut → ⊥
+limit_so true count number x e = cc
+limit_so false count number x e = cc
+
+pair_so : (r : Result Given Fault) → as_input r ≡ Err CannotWriteOut → r ≡ Err CannotWriteOut
+pair_so (Ok given) e = cc
+pair_so (Err fault) e = let k : fault ≡ CannotWriteOut = cc in ap (λ f. Err f) k
+
+cubes_so : (cells : List (List Factor)) (input : Input) → within_cubes cells input ≡ Err CannotWriteOut → ⊥
+cubes_so cells input e = limit_so (nat_lt most_cubes (length cells)) Cubes most_cubes input e
+
+range_so : (b : Bool) (cells : List (List Factor)) (input : Input) → cond b (within_cubes cells input) (Err (Limit Coordinates greatest_end)) ≡ Err CannotWriteOut → ⊥
+range_so true cells input e = cubes_so cells input e
+range_so false cells input e = cc
+
+limits_so : (input : Input) → within_limits input ≡ Err CannotWriteOut → ⊥
+limits_so (inputs.Homcubes given) e = limit_so (nat_lt most_cells (cell_count (given.x.cells ++ given.a.cells))) Cells most_cells given (pair_so (within_cells given) e)
+limits_so (inputs.Combine sets) e = cubes_so (combined_of sets.combination sets.x.cells sets.y.cells) (inputs.Combine sets) e
+limits_so (inputs.Cubnbhd set) e = range_so (are_in_range (neighbours_of set.cells)) (neighbours_of set.cells) (inputs.Cubnbhd set) e
+limits_so (inputs.Cubcells set) e = cubes_so (cells_of set.cells) (inputs.Cubcells set) e
+
+pub never_write : (words : List (List ℕ)) (disk : Option Disk) (before now : List ℕ → ℕ) (had has : ℕ) (fault said : Fault) (status : Status) → RestsOn words disk before now had has fault
+    → (said ≡ fault) ⊎ (said ≡ OutOfMemory) → status ≡ status_of said → status ≡ statuses.Write → ⊥
+never_write words disk before now had has fault said status r m s w = by said (said_rests words disk before now had has fault said r m) (sym s ∙ w)
+  where
+    rests : RestsOn words disk before now had has CannotWriteOut → ⊥
+    rests (inl e) = words_so words e
+    rests (inr (inl (command, asked, inl r))) = r
+    rests (inr (inl (command, asked, inr (input, told, limit)))) = limits_so input limit
+    rests (inr (inr e)) = cc
+
+    by : (said : Fault) → RestsOn words disk before now had has said → status_of said ≡ statuses.Write → ⊥
+    by NoTool r e = cc
+    by (NotAForm tool) r e = cc
+    by (CannotRead name) r e = cc
+    by (BadText name place cause) r e = cc
+    by (NotComplex name degree generator value at) r e = cc
+    by (Dimension name found earlier) r e = cc
+    by (Limit count number) r e = cc
+    by CannotWriteOut r e = rests r
+    by OutOfMemory r e = cc

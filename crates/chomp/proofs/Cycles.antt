@@ -10,7 +10,7 @@ use Rattle.field_mod.proofs.Table.{two_le}
 use Rattle.elem_cubes.specs.Cells.{Factor}
 use Rattle.chains.specs.Terms.{coefficient, nth_chain, IsNormalWithin}
 use Rattle.chains.specs.Homology.{IsNull, IsBasis, combination}
-use Rattle.chains.specs.ChainComplex.{ChainComplex, IsComplex, system}
+use Rattle.chains.specs.ChainComplex.{ChainComplex, IsComplex, IsBasisOf, system}
 use Rattle.chains.proofs.TermLists.{coefficient-above}
 use Rattle.chains.proofs.Dependent.{one_nonzero}
 use Rattle.chains.proofs.Systems.{null-zero, null-same}
@@ -21,7 +21,8 @@ use Rattle.cell_complex.specs.Numbering.{IsRelativeComplex, cell_coefficient, ce
 use Rattle.cell_complex.proofs.ByCell.{bases_are_by_number_or_cell}
 use Rattle.chomp.specs.Right.{IsPrintedCycle, IsRightInDegree}
 use Rattle.chomp.proofs.Multiples.{AreMultiples, multiples_are_basis}
-use Rattle.chomp.proofs.Printing.{IsPick, Pick, zero_or_pick, printed}
+use Rattle.homology_basis.specs.Bases.{BeginsWithOne as Begins}
+use Rattle.chomp.proofs.Printing.{Pick, zero_or_pick, printed}
 
 -- ---- lists by a function of the place
 
@@ -46,6 +47,33 @@ get_or-cell_terms cells (z ∷ zs) (suc i) = get_or-cell_terms cells zs i
 length-cell_terms : (cells : List (List Factor)) (zs : List (List (ℕ × ℕ))) → length (map (cell_terms cells) zs) ≡ length zs
 length-cell_terms cells [] = refl
 length-cell_terms cells (z ∷ zs) = ap (λ m. suc m) (length-cell_terms cells zs)
+
+-- ---- a basis by numbers, over the cells
+
+module _ (p : ℕ) (x a cells : List (List Factor)) (K : ChainComplex) (is_modulus : IsModulus p) (relative : IsRelativeComplex p x a cells K) (sorted : IsSortedCells cells) (k : ℕ) (zs : List (List (ℕ × ℕ)))
+    (normal : (i : ℕ) → i < length zs → IsNormalWithin p 0 (length cells) (get_or zs i [])) (first : (i : ℕ) → i < length zs → Begins (get_or zs i [])) (basis : IsBasisOf p K k zs) where
+  abbrev over_cells : List (List (List Factor × ℕ))
+  over_cells = map (cell_terms cells) zs
+
+  by_cell : IsBasis p (relative_complex p x a) k (length zs) (λ i. cell_coefficient (cell_terms cells (get_or zs i [])))
+  by_cell = ((bases_are_by_number_or_cell p x a cells K (omega (arith, two_le p is_modulus)) relative).basis_of_terms k zs
+      (λ i g l h. coefficient-above p 0 (length cells) (get_or zs i []) g (normal i l) h)).0 basis
+
+  as_printed : IsBasis p (relative_complex p x a) k (length over_cells) (λ i. cell_coefficient (get_or over_cells i []))
+  as_printed =
+      let same : (i : ℕ) → cell_terms cells (get_or zs i []) ≡ get_or over_cells i [] = λ i. sym (get_or-cell_terms cells zs i) in
+      subst (λ (n : ℕ). IsBasis p (relative_complex p x a) k n (λ i. cell_coefficient (get_or over_cells i []))) (sym (length-cell_terms cells zs))
+      (subst (λ (ws : ℕ → List Factor → ℕ). IsBasis p (relative_complex p x a) k (length zs) ws) (λ j i. cell_coefficient (same i j)) by_cell)
+
+  each_printed : (i : ℕ) → i < length over_cells → IsPrintedCycle p (get_or over_cells i [])
+  each_printed i l =
+      let inside : i < length zs = omega (arith, l, length-cell_terms cells zs) in
+      subst (λ (ts : List (List Factor × ℕ)). IsPrintedCycle p ts) (sym (get_or-cell_terms cells zs i)) (printed p cells sorted.sorted (get_or zs i []) (normal i inside) (first i inside))
+
+  pub right_over_cells : IsRightInDegree p x a k (length zs) (map (cell_terms cells) zs)
+  right_over_cells = record { number = sym (length-cell_terms cells zs); basis = as_printed; printed = each_printed }
+
+-- ---- from cycles of any form to printed ones
 
 module _ (p : ℕ) (K : ChainComplex) (is_modulus : IsModulus p) (is_complex : IsComplex p K) (k m : ℕ) (zs : ℕ → ℕ → ℕ) (basis : IsBasis p (system K) k m zs) where
   -- no cycle of a basis is 0
@@ -102,32 +130,13 @@ module _ (p : ℕ) (K : ChainComplex) (is_modulus : IsModulus p) (is_complex : I
     abbrev pub cycles : List (List (List Factor × ℕ))
     cycles = map (cell_terms cells) lists
 
-    count : length K.boundaries ≡ length cells
-    count = relative.complex.count
-
-    inside : (i : ℕ) → i < length cycles → i < m
-    inside i l = omega (arith, l, length-cell_terms cells lists, length-tabulated m (λ i. (pick i).list))
-
-    by_cell : IsBasis p (relative_complex p x a) k (length lists) (λ i. cell_coefficient (cell_terms cells (get_or lists i [])))
-    by_cell = ((bases_are_by_number_or_cell p x a cells K (omega (arith, two_le p is_modulus)) relative).basis_of_terms k lists
-        (λ i g l h. past i g (omega (arith, l, length-tabulated m (λ i. (pick i).list))) (omega (arith, h, count)))).0 numbered
-
-    as_printed : IsBasis p (relative_complex p x a) k (length cycles) (λ i. cell_coefficient (get_or cycles i []))
-    as_printed =
-        let same : (i : ℕ) → cell_terms cells (get_or lists i []) ≡ get_or cycles i [] = λ i. sym (get_or-cell_terms cells lists i) in
-        subst (λ (n : ℕ). IsBasis p (relative_complex p x a) k n (λ i. cell_coefficient (get_or cycles i []))) (sym (length-cell_terms cells lists))
-        (subst (λ (ws : ℕ → List Factor → ℕ). IsBasis p (relative_complex p x a) k (length lists) ws) (λ j i. cell_coefficient (same i j)) by_cell)
-
-    each_printed : (i : ℕ) → i < length cycles → IsPrintedCycle p (get_or cycles i [])
-    each_printed i l =
-        let q : IsPick p (length K.boundaries) (zs i) (pick i).by (pick i).inverse (pick i).list = (pick i).is_pick (inside i l) in
-        let same : get_or cycles i [] ≡ cell_terms cells (pick i).list = get_or-cell_terms cells lists i ∙ ap (cell_terms cells) (lists_at i (inside i l)) in
-        subst (λ (ts : List (List Factor × ℕ)). IsPrintedCycle p ts) (sym same)
-        (printed p cells sorted.sorted (pick i).list (subst (λ (n : ℕ). IsNormalWithin p 0 n (pick i).list) count q.normal) q.begins)
+    inside : (i : ℕ) → i < length lists → i < m
+    inside i l = omega (arith, l, length-tabulated m (λ i. (pick i).list))
 
     pub right_in_degree : IsRightInDegree p x a k m cycles
-    right_in_degree = record {
-      number = sym (length-cell_terms cells lists ∙ length-tabulated m (λ i. (pick i).list));
-      basis = as_printed;
-      printed = each_printed;
-    }
+    right_in_degree = subst (λ (n : ℕ). IsRightInDegree p x a k n cycles) (length-tabulated m (λ i. (pick i).list))
+        (right_over_cells p x a cells K is_modulus relative sorted k lists
+        (λ i l. subst (λ (ts : List (ℕ × ℕ)). IsNormalWithin p 0 (length cells) ts) (sym (lists_at i (inside i l)))
+        (subst (λ (n : ℕ). IsNormalWithin p 0 n (pick i).list) relative.complex.count ((pick i).is_pick (inside i l)).normal))
+        (λ i l. subst (λ (ts : List (ℕ × ℕ)). Begins ts) (sym (lists_at i (inside i l))) ((pick i).is_pick (inside i l)).begins)
+        numbered)

@@ -3,17 +3,18 @@ use Rattle.std.proofs.Common.{◌≡◌, ℕ, List, Result, Ok, Err, refl, sym, 
 use Rattle.grid_files.specs.Sets.{Members}
 use Rattle.grid_files.specs.SetFile.{HasValue, IsRefusedAt, no_members}
 use Rattle.grid_files.specs.declared.fault.Kind.{Kind}
-use Rattle.grid_files.specs.declared.fault.Kind.TheVariants.{Any}
+use Rattle.grid_files.specs.declared.fault.Kind.TheVariants.{Any, Full}
 use Rattle.grid_files.specs.declared.fault.TextCause.{TextCause}
 use Rattle.grid_files.proofs.Outcomes.{one_outcome}
 use Rattle.report.specs.declared.fault.Fault.{Fault}
 use Rattle.chomp.specs.declared.homcubes.Job.{Job}
 use Rattle.chomp.specs.declared.command.Command.{Command}
-use Rattle.chomp.specs.declared.command.Command.TheVariants.{Homcubes}
+use Rattle.chomp.specs.declared.combine.TwoFiles.{TwoFiles}
+use Rattle.chomp.specs.declared.command.Command.TheVariants.{Homcubes, Combine, Cubnbhd, Cubcells}
 use Rattle.chomp.specs.declared.command.Input.{Input}
 use Rattle.chomp.specs.declared.command.Input.TheVariants as inputs
 use Rattle.chomp.specs.Words.{command_of}
-use Rattle.chomp.specs.Refusal.{Then, Is, Reading, file_bytes, text_fault, IsSetOf, IsSetIn, IsSubsetIn, pair_of, IsPairIn, IsInputOf, within_limits, IsJudged, JudgementsAreOne}
+use Rattle.chomp.specs.Refusal.{Then, Is, Reading, file_bytes, text_fault, IsSetOf, IsSetIn, IsSubsetIn, pair_of, IsPairIn, operands_of, AreOperandsIn, IsInputOf, within_limits, IsJudged, JudgementsAreOne}
 
 -- a step has exactly one outcome
 record IsOne {A : Type 0} (step : Result A Fault → Type 0) : Type 0 where
@@ -96,8 +97,15 @@ pair_one : (job : Job) (read : Reading) → IsOne (IsPairIn job read)
 pair_one job read = then_one (IsSetIn Any job.x read) (λ x. Then (IsSubsetIn Any job.a read) (λ a. Is (pair_of job x a))) (set_in_one Any job.x read)
     (λ x. then_one (IsSubsetIn Any job.a read) (λ a. Is (pair_of job x a)) (subset_one Any job.a read) (λ a. computed (pair_of job x a)))
 
+operands_one : (files : TwoFiles) (read : Reading) → IsOne (AreOperandsIn files read)
+operands_one files read = then_one (IsSetIn Any files.x read) (λ x. Then (IsSetIn Any files.y read) (λ y. Is (operands_of files x y))) (set_in_one Any files.x read)
+    (λ x. then_one (IsSetIn Any files.y read) (λ y. Is (operands_of files x y)) (set_in_one Any files.y read) (λ y. computed (operands_of files x y)))
+
 input_one : (command : Command) (read : Reading) → IsOne (IsInputOf command read)
 input_one (Homcubes job) read = then_one (IsPairIn job read) (λ given. Is (Ok (inputs.Homcubes given))) (pair_one job read) (λ given. computed (Ok (inputs.Homcubes given)))
+input_one (Combine files) read = then_one (AreOperandsIn files read) (λ sets. Is (Ok (inputs.Combine sets))) (operands_one files read) (λ sets. computed (Ok (inputs.Combine sets)))
+input_one (Cubnbhd x) read = then_one (IsSetIn Full x read) (λ set. Is (Ok (inputs.Cubnbhd set))) (set_in_one Full x read) (λ set. computed (Ok (inputs.Cubnbhd set)))
+input_one (Cubcells x) read = then_one (IsSetIn Any x read) (λ set. Is (Ok (inputs.Cubcells set))) (set_in_one Any x read) (λ set. computed (Ok (inputs.Cubcells set)))
 
 judged : (words : List (List ℕ)) (read : Reading) → IsOne (IsJudged words read)
 judged words read = then_one (Is (command_of words)) (λ command. Then (IsInputOf command read) (λ input. Is (within_limits input))) (computed (command_of words))

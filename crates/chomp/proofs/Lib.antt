@@ -3,8 +3,11 @@ pub mod Printing
 pub mod Cycles
 pub mod Counting
 pub mod RightPairs
+pub mod RightBases
 pub mod Judging
 pub mod Passing
+pub mod PassingSets
+pub mod SetReports
 pub mod Answering
 pub mod Tables
 pub mod Reading

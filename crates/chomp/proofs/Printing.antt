@@ -16,6 +16,7 @@ use Rattle.chains.specs.Terms.{coefficient, IsNormalWithin}
 use Rattle.chains.proofs.TermLists.{lowered, low-le-high, coefficient-below}
 use Rattle.algebraic_reduction.proofs.Columns.{same_zero}
 use Rattle.cell_complex.specs.Numbering.{cell_terms}
+use Rattle.homology_basis.specs.Bases.{BeginsWithOne as Begins}
 use Rattle.chomp.specs.Right.{BeginsWithOne, IsPrintedCycle}
 
 -- ---- the terms of a chain at the numbers from low on, n of them
@@ -83,10 +84,6 @@ scaled_normal p b u low high [] two unit h = h
 scaled_normal p b u low high (t ∷ ts) two unit h = (h.0, unit_nonzero p b u t.1 two unit h.1 h.2, (omega arith), scaled_normal p b u (t.0 + 1) high ts two unit h.3)
 
 -- ---- a multiple that begins with 1
-
-abbrev pub Begins : List (ℕ × ℕ) → Type 0
-Begins [] = ⊥
-Begins (t ∷ ts) = t.1 ≡ 1
 
 -- the list is a multiple of the chain c on the numbers below n by a unit, in normal form, and its first coefficient is 1
 pub record IsPick (p n : ℕ) (c : ℕ → ℕ) (by inverse : ℕ) (list : List (ℕ × ℕ)) : Type 0 where

@@ -4,9 +4,8 @@ use Rattle.std.specs.List.{list_any}
 use Rattle.std.proofs.lemmas.List.{drop_more, take_all}
 use Rattle.chomp.specs.declared.arguments.Setting.{Setting}
 use Rattle.chomp.specs.declared.tool.Choice.{Choice}
-use Rattle.chomp.specs.declared.tool.Choice.TheVariants.{Modulus}
 use Rattle.chomp.specs.Forms.{named, is_set, are_once}
-use Rattle.chomp.specs.Words.{modulus_named, modulus_of, modulus_in}
+use Rattle.chomp.specs.Words.{modulus_of, modulus_in}
 
 first_of : (word : List ℕ) (n : ℕ) (ns : List ℕ) (b : Bool) → bytes_eq word (decimal n) ≡ b → named decimal (n ∷ ns) word ≡ cond b (Some n) (named decimal ns word)
 first_of word n ns b e = ap (λ c. cond c (Some n) (named decimal ns word)) e
@@ -33,8 +32,5 @@ once_at ss i s b l e t = ap are_once (drop_more ss i s l) ∙ ap (λ r. are_once
     tested true t = rw (← t) refl
     tested false t = rw (← t) refl
 
-first_modulus : (choice : Choice) (value : Option (List ℕ)) (others : Option ℕ) → modulus_of choice value others ≡ modulus_named value
-first_modulus Modulus value others = refl
-
-pub modulus_at : (ss : List Setting) (i : ℕ) (s : Setting) → i < length ss → s ≡ get_or ss i s → modulus_in (drop i ss) ≡ modulus_named s.value
-modulus_at ss i s l e = ap modulus_in (drop_more ss i s l) ∙ ap (λ r. modulus_in (r ∷ drop (i + 1) ss)) (sym e) ∙ first_modulus s.choice s.value (modulus_in (drop (i + 1) ss))
+pub modulus_at : (ss : List Setting) (i : ℕ) (s : Setting) (choice : Choice) → i < length ss → s ≡ get_or ss i s → s.choice ≡ choice → modulus_in (drop i ss) ≡ modulus_of choice s.value (modulus_in (drop (i + 1) ss))
+modulus_at ss i s choice l e is = ap modulus_in (drop_more ss i s l) ∙ ap (λ r. modulus_in (r ∷ drop (i + 1) ss)) (sym e) ∙ ap (λ c. modulus_of c s.value (modulus_in (drop (i + 1) ss))) is

@@ -5,9 +5,9 @@ use Rattle.std.specs.List.{list_any, position_or_len, before_first, after_first}
 use Rattle.std.specs.Str.{bytes_eq}
 use Rattle.std.specs.declared.string.String.{String}
 use Rattle.chomp.specs.declared.tool.Tool.{Tool}
-use Rattle.chomp.specs.declared.tool.Tool.TheVariants.{Homcubes}
+use Rattle.chomp.specs.declared.tool.Tool.TheVariants.{Homcubes, Cubunion, Cubinter, Cubnbhd, Cubcells}
 use Rattle.chomp.specs.declared.tool.Choice.{Choice}
-use Rattle.chomp.specs.declared.tool.Choice.TheVariants.{Modulus}
+use Rattle.chomp.specs.declared.tool.Choice.TheVariants.{Modulus, Cycles}
 use Rattle.chomp.specs.declared.words.Next.{Next}
 use Rattle.chomp.specs.declared.words.Next.TheVariants.{Anything, ValueOf, OperandsAlone}
 use Rattle.chomp.specs.declared.words.Said.{Said}
@@ -25,17 +25,23 @@ pub record Form : Type 0 where
   pub options : List Choice
 
 abbrev pub form_of : Tool → Form
-form_of Homcubes = record { name = codes "homcubes"; fewest = 1; most = 2; options = Modulus ∷ [] }
+form_of Homcubes = record { name = codes "homcubes"; fewest = 1; most = 2; options = Modulus ∷ Cycles ∷ [] }
+form_of Cubunion = record { name = codes "cubunion"; fewest = 2; most = 2; options = [] }
+form_of Cubinter = record { name = codes "cubinter"; fewest = 2; most = 2; options = [] }
+form_of Cubnbhd = record { name = codes "cubnbhd"; fewest = 1; most = 1; options = [] }
+form_of Cubcells = record { name = codes "cubcells"; fewest = 1; most = 1; options = [] }
 
 abbrev pub tools : List Tool
-tools = Homcubes ∷ []
+tools = Homcubes ∷ Cubunion ∷ Cubinter ∷ Cubnbhd ∷ Cubcells ∷ []
 
 -- an option: its name, and whether it takes a value
 abbrev pub option_name : Choice → List ℕ
 option_name Modulus = codes "--mod"
+option_name Cycles = codes "--cycles"
 
 abbrev pub takes_value : Choice → Bool
 takes_value Modulus = true
+takes_value Cycles = false
 
 -- the first entry of a list that has this name
 abbrev pub named : {A : Type 0} → (A → List ℕ) → List A → List ℕ → Option A
@@ -141,6 +147,8 @@ words_read tool next (word ∷ words) = word_first (word_read tool next word) (�
 -- each option stands once
 abbrev pub same_choice : Choice → Choice → Bool
 same_choice Modulus Modulus = true
+same_choice Cycles Cycles = true
+same_choice choice other = false
 
 abbrev pub is_set : Choice → List Setting → Bool
 is_set choice settings = list_any (λ s. same_choice s.choice choice) settings

@@ -8,20 +8,25 @@ use Rattle.grid_files.specs.SetFile.{HasValue, IsRefusedAt, no_members}
 use Rattle.grid_files.specs.declared.fault.Kind.{Kind}
 use Rattle.grid_files.specs.declared.fault.TextCause.{TextCause}
 use Rattle.grid_files.specs.declared.fault.TextCause.TheVariants as texts
+use Rattle.elem_cubes.specs.Cells.{Factor}
+use Rattle.grid_files.specs.Closures.{cells_of}
+use Rattle.grid_files.specs.Neighbours.{neighbours_of, are_in_range}
 use Rattle.cell_complex.specs.Gathering.{cell_count}
 use Rattle.report.specs.declared.cause.Cause.{Cause}
 use Rattle.report.specs.declared.cause.Cause.TheVariants as causes
 use Rattle.report.specs.declared.fault.Fault.{Fault}
 use Rattle.report.specs.declared.fault.Fault.TheVariants.{CannotRead, BadText, Dimension, Limit}
-use Rattle.report.specs.declared.limit_name.LimitName.TheVariants.{FileBytes, Cubes, Cells}
+use Rattle.report.specs.declared.limit_name.LimitName.TheVariants.{FileBytes, Cubes, Cells, Coordinates}
 use Rattle.chomp.specs.declared.homcubes.Job.{Job}
 use Rattle.chomp.specs.declared.homcubes.Given.{Given}
 use Rattle.chomp.specs.declared.command.Command.{Command}
-use Rattle.chomp.specs.declared.command.Command.TheVariants.{Homcubes}
+use Rattle.chomp.specs.declared.combine.TwoFiles.{TwoFiles}
+use Rattle.chomp.specs.declared.command.Command.TheVariants.{Homcubes, Combine, Cubnbhd, Cubcells}
 use Rattle.chomp.specs.declared.command.Input.{Input}
 use Rattle.chomp.specs.declared.command.Input.TheVariants as inputs
-use Rattle.grid_files.specs.declared.fault.Kind.TheVariants.{Any}
+use Rattle.grid_files.specs.declared.fault.Kind.TheVariants.{Any, Full}
 use Rattle.chomp.specs.Words.{command_of}
+use Rattle.chomp.specs.Combining.{Operands, combined_of}
 
 -- one step after another, up to the first refusal
 abbrev pub Then : {A B : Type 0} → (Result A Fault → Type 0) → (A → Result B Fault → Type 0) → Result B Fault → Type 0
@@ -32,7 +37,8 @@ Then {A} first next (Err fault) = first (Err fault) ⊎ ((x : A) × first (Ok x)
 abbrev pub Is : {A : Type 0} → Result A Fault → Result A Fault → Type 0
 Is due outcome = outcome ≡ due
 
--- ---- limits: the most bytes of one input file, distinct members of one set file, and cells of a pair
+-- ---- limits: the most bytes of one input file, distinct members of one set file or of a set that is made, and cells of a pair, and
+-- the greatest end of a cube of a neighbourhood
 
 abbrev pub file_bytes : ℕ
 file_bytes = 67108864
@@ -42,6 +48,9 @@ most_cubes = 1048576
 
 abbrev pub most_cells : ℕ
 most_cells = 4194304
+
+abbrev pub greatest_end : ℕ
+greatest_end = 1073741824
 
 -- ---- the files
 
@@ -111,11 +120,36 @@ IsPairIn job read = Then (IsSetIn Any job.x read) (λ x. Then (IsSubsetIn Any jo
 abbrev pub within_cells : Given → Result Given Fault
 within_cells given = if nat_lt most_cells (cell_count (given.x.cells ++ given.a.cells)) then Err (Limit Cells most_cells) else Ok given
 
+-- ---- `cubunion` and `cubinter`
+
+-- the two sets, where their dimensions are one or one of them is unknown
+abbrev pub operands_of : TwoFiles → Members → Members → Result Operands Fault
+operands_of files x y =
+    if dimensions_agree x.dimension y.dimension then Ok (record { x = x; y = y; combination = files.combination })
+    else Err (Dimension files.y y.dimension x.dimension)
+
+-- the first set, then the second, and then their dimensions
+abbrev pub AreOperandsIn : TwoFiles → Reading → Result Operands Fault → Type 0
+AreOperandsIn files read = Then (IsSetIn Any files.x read) (λ x. Then (IsSetIn Any files.y read) (λ y. Is (operands_of files x y)))
+
+-- ---- sets that are made
+
+-- the input, where the set that is made of it has no more members than there may be
+abbrev pub within_cubes : List (List Factor) → Input → Result Input Fault
+within_cubes cells input = if nat_lt most_cubes (length cells) then Err (Limit Cubes most_cubes) else Ok input
+
+-- the same for a neighbourhood, all of whose cubes lie in the range of the files
+abbrev pub within_range : List (List Factor) → Input → Result Input Fault
+within_range cells input = if are_in_range cells then within_cubes cells input else Err (Limit Coordinates greatest_end)
+
 -- ---- all tools
 
 -- what the files of a command give
 abbrev pub IsInputOf : Command → Reading → Result Input Fault → Type 0
 IsInputOf (Homcubes job) read = Then (IsPairIn job read) (λ given. Is (Ok (inputs.Homcubes given)))
+IsInputOf (Combine files) read = Then (AreOperandsIn files read) (λ sets. Is (Ok (inputs.Combine sets)))
+IsInputOf (Cubnbhd x) read = Then (IsSetIn Full x read) (λ set. Is (Ok (inputs.Cubnbhd set)))
+IsInputOf (Cubcells x) read = Then (IsSetIn Any x read) (λ set. Is (Ok (inputs.Cubcells set)))
 
 abbrev pub as_input : Result Given Fault → Result Input Fault
 as_input (Ok given) = Ok (inputs.Homcubes given)
@@ -124,6 +158,9 @@ as_input (Err fault) = Err fault
 -- an input that no limit refuses
 abbrev pub within_limits : Input → Result Input Fault
 within_limits (inputs.Homcubes given) = as_input (within_cells given)
+within_limits (inputs.Combine sets) = within_cubes (combined_of sets.combination sets.x.cells sets.y.cells) (inputs.Combine sets)
+within_limits (inputs.Cubnbhd set) = within_range (neighbours_of set.cells) (inputs.Cubnbhd set)
+within_limits (inputs.Cubcells set) = within_cubes (cells_of set.cells) (inputs.Cubcells set)
 
 -- the words first, then the files, and then what they give
 abbrev pub IsJudged : List (List ℕ) → Reading → Result Input Fault → Type 0

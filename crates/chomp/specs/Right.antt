@@ -1,7 +1,7 @@
 -- What a report must be to be right. It speaks of the cells of the whole sets and of chains on them, and knows neither
 -- numbers of cells nor an elimination. (Kaczynski, Mischaikow, Mrozek: Computational Homology, Springer 2004, sections 2.2
 -- and 9.1)
-use Rattle.std.specs.Prelude.{◌≡◌, ℕ, ◌+◌, ◌<◌, ◌≤◌, ◌==◌, if◌then◌else◌, List, [], ◌∷◌, length, map, slice_index, slice_index_or}
+use Rattle.std.specs.Prelude.{◌≡◌, ℕ, ◌+◌, ◌<◌, ◌≤◌, ◌==◌, if◌then◌else◌, List, [], ◌∷◌, length, map, slice_index, slice_index_or, Bool, true, false}
 use Rattle.std.specs.List.{All}
 use Rattle.std.specs.List.Sorted.{IsStrictlySortedBy}
 use Rattle.elem_cubes.specs.Cells.{Factor}
@@ -9,12 +9,15 @@ use Rattle.elem_cubes.specs.Order.{cell_cmp}
 use Rattle.chains.specs.Homology.{IsBasis}
 use Rattle.cell_complex.specs.RelativeComplex.{relative_complex}
 use Rattle.cell_complex.specs.Numbering.{cell_coefficient}
-use Rattle.grid_files.specs.Sets.{Members}
+use Rattle.grid_files.specs.Sets.{Members, holds}
+use Rattle.grid_files.specs.Closures.{is_cell_of}
+use Rattle.grid_files.specs.Neighbours.{is_neighbour}
 use Rattle.report.specs.declared.reports.Report.{Report}
-use Rattle.report.specs.declared.reports.Report.TheVariants.{Pair}
+use Rattle.report.specs.declared.reports.Report.TheVariants.{Pair, Set}
 use Rattle.chomp.specs.declared.homcubes.Given.{Given}
 use Rattle.chomp.specs.declared.command.Input.{Input}
-use Rattle.chomp.specs.declared.command.Input.TheVariants.{Homcubes}
+use Rattle.chomp.specs.declared.command.Input.TheVariants.{Homcubes, Combine, Cubnbhd, Cubcells}
+use Rattle.chomp.specs.Combining.{Operands, is_combined}
 
 -- the first coefficient of a chain is 1
 abbrev pub BeginsWithOne : List (List Factor × ℕ) → Type 0
@@ -48,10 +51,35 @@ HasDimensions p n x a dimensions = (cycles : List (List (List (List Factor × �
 abbrev pub common_dimension : Members → Members → ℕ
 common_dimension x a = if x.dimension == 0 then a.dimension else x.dimension
 
+-- the report is a set of dimension n with exactly these members, in order and each once
+pub record IsSetWith (n : ℕ) (is_member : List Factor → Bool) (set : Members) : Type 0 where
+  pub dimension : set.dimension ≡ n
+  pub sorted : IsStrictlySortedBy cell_cmp set.cells
+  pub members : (q : List Factor) → holds set q ≡ is_member q
+
+abbrev pub IsReportOfSet : ℕ → (List Factor → Bool) → Report → Type 0
+IsReportOfSet n is_member (Set set) = IsSetWith n is_member set
+IsReportOfSet n is_member report = ⊥
+
+-- the union or the intersection of the members of two sets
+abbrev pub IsCombinationOf : Operands → Report → Type 0
+IsCombinationOf sets report = IsReportOfSet (common_dimension sets.x sets.y) (is_combined sets.combination sets.x sets.y) report
+
+-- all full cubes that share a point with a member
+abbrev pub IsNeighbourhoodOf : Members → Report → Type 0
+IsNeighbourhoodOf set report = IsReportOfSet set.dimension (is_neighbour set.cells) report
+
+-- all cells of the members
+abbrev pub IsClosureOf : Members → Report → Type 0
+IsClosureOf set report = IsReportOfSet set.dimension (is_cell_of set.cells) report
+
 -- a report is right for what the files gave: that on a pair is on the homology of the relative complex of its two sets, in
--- each degree from 0 to their dimension
+-- each degree from 0 to their dimension; that of a tool on sets is its set
 abbrev pub IsRight : Input → Report → Type 0
 IsRight (Homcubes given) (Pair pair) = IsRightPair given.modulus (common_dimension given.x given.a) given.x.cells given.a.cells pair.dimensions pair.cycles
+IsRight (Combine sets) report = IsCombinationOf sets report
+IsRight (Cubnbhd set) report = IsNeighbourhoodOf set report
+IsRight (Cubcells set) report = IsClosureOf set report
 IsRight input report = ⊥
 
 -- the report lacks only the cycles: with some it is right
@@ -59,5 +87,14 @@ abbrev pub IsPairRightButForCycles : Given → Report → Type 0
 IsPairRightButForCycles given (Pair pair) = HasDimensions given.modulus (common_dimension given.x given.a) given.x.cells given.a.cells pair.dimensions
 IsPairRightButForCycles given report = ⊥
 
-abbrev pub IsRightButForCycles : Input → Report → Type 0
-IsRightButForCycles (Homcubes given) report = IsPairRightButForCycles given report
+-- where the cycles are printed the report on a pair is right, and else it may lack them
+abbrev pub IsPairRightAsShown : Bool → Given → Report → Type 0
+IsPairRightAsShown true given report = IsRight (Homcubes given) report
+IsPairRightAsShown false given report = IsPairRightButForCycles given report
+
+-- the same of any report; one that is a set has no cycles
+abbrev pub IsRightAsShown : Bool → Input → Report → Type 0
+IsRightAsShown cycles (Homcubes given) report = IsPairRightAsShown cycles given report
+IsRightAsShown cycles (Combine sets) report = IsCombinationOf sets report
+IsRightAsShown cycles (Cubnbhd set) report = IsNeighbourhoodOf set report
+IsRightAsShown cycles (Cubcells set) report = IsClosureOf set report

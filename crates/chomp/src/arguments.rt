@@ -1,9 +1,10 @@
 //! What all words after a tool's name say.
 ghost use Rattle.std.specs.Prelude.{◌≡◌, OnOk, map};
 ghost use Rattle.chomp.specs.Forms.{Spoken, nothing_spoken, spoken, after, at_end, words_read, is_set, are_once, form_of, fits, form_read};
-ghost use Rattle.chomp.specs.Words.{formed};
+ghost use Rattle.chomp.specs.Words.{formed, only_operand};
 ghost use Rattle.chomp.specs.Saying.{IsDue};
 
+use crate::loading::copied;
 use crate::tool::{Choice, Tool};
 use crate::words::{Next, Said, not_a_form, word_read};
 use report::{Fault, Name};
@@ -103,6 +104,16 @@ impl Arguments {
         self.operands.as_slice()
     }
 
+    /// The operand of a tool that takes one.
+    pub fn only_operand(&self, alloc: Global, tool: Tool) -> Result<Name, Fault>
+        ensures { IsDue (formed tool (only_operand self.now.operands)) result }
+    {
+        match self.operands() {
+            [x] => copied(alloc, x),
+            _ => Err(not_a_form(alloc, tool)),
+        }
+    }
+
     /// The options.
     pub fn settings(&self) -> &[Setting]
         ensures { result.now ≡ self.now.settings }
@@ -123,8 +134,8 @@ fn are_once(settings: &[Setting]) -> bool
     true
 }
 
-// Whether the option is set.
-fn is_set(choice: Choice, settings: &[Setting]) -> bool
+/// Whether the option is set.
+pub fn is_set(choice: Choice, settings: &[Setting]) -> bool
     ensures { result ≡ is_set choice settings.now }
 {
     settings.iter().any(|setting| setting.choice.is(choice))

@@ -1,14 +1,16 @@
 //! The tool `homcubes`: the homology of a set or a pair.
-ghost use Rattle.std.specs.Prelude.{◌≡◌, ◌≤◌, ◌+◌, ◌*◌, ◌∷◌, ◌⊎◌, [], length, Some, IfOk, IfErr, IfSome, OnOk, Ok, Err};
+ghost use Rattle.std.specs.Prelude.{◌≡◌, ◌<◌, ◌≤◌, ◌+◌, ◌*◌, ◌∷◌, ◌++◌, ◌⊎◌, [], length, Some, IfOk, IfErr, IfSome, OnOk, Ok, Err};
 ghost use Rattle.outside.specs.Causes.{NoneFell};
+ghost use Rattle.cell_complex.specs.Gathering.{cell_count};
 ghost use Rattle.report.specs.ReportText.{HasText};
 ghost use Rattle.chomp.specs.Words.{formed, modulus_in, homcubes_job, and_subset, names_of};
 ghost use Rattle.chomp.specs.Refusal.{IsPairIn, IsInputOf, pair_of, within_cells, reading, file_bytes};
 ghost use Rattle.chomp.specs.Saying.{LoadRestsOn, IsDue};
-ghost use Rattle.chomp.specs.Right.{common_dimension, IsPairRightButForCycles};
+ghost use Rattle.chomp.specs.Right.{common_dimension, IsRightAsShown};
 
-use crate::arguments::{Arguments, Setting};
-use crate::command::Command;
+use crate::arguments::{Arguments, Setting, is_set};
+use crate::bases::basis_of_pair;
+use crate::command::{Command, Input};
 use crate::homology::dimensions;
 use crate::loading::{copied, load_set, load_subset};
 use crate::modulus::Modulus;
@@ -29,6 +31,8 @@ pub struct Job {
     pub a: Option<Name>,
     /// The modulus of the coefficients.
     pub modulus: Modulus,
+    /// Whether the cycles are printed.
+    pub cycles: bool,
 }
 
 /// What the files give.
@@ -49,6 +53,7 @@ pub fn asked(alloc: Global, arguments: &Arguments) -> Result<Job, Fault>
     let Some(modulus) = modulus_in(arguments.settings()) else {
         return Err(not_a_form(alloc, Tool::Homcubes));
     };
+    let cycles = is_set(Choice::Cycles, arguments.settings());
     match arguments.operands() {
         [x] => {
             let x = copied(alloc, x)?;
@@ -56,6 +61,7 @@ pub fn asked(alloc: Global, arguments: &Arguments) -> Result<Job, Fault>
                 x,
                 a: None,
                 modulus,
+                cycles,
             })
         }
         [x, a] => {
@@ -65,6 +71,7 @@ pub fn asked(alloc: Global, arguments: &Arguments) -> Result<Job, Fault>
                 x,
                 a: Some(a),
                 modulus,
+                cycles,
             })
         }
         _ => Err(not_a_form(alloc, Tool::Homcubes)),
@@ -83,6 +90,7 @@ fn modulus_in(settings: &[Setting]) -> Option<Modulus>
                     None => None,
                 };
             }
+            Choice::Cycles => {}
         }
     }
     Some(Modulus::usual())
@@ -143,23 +151,36 @@ fn common_dimension(x: &CubeSet, a: &CubeSet) -> u8
     }
 }
 
-/// The report on the homology of the pair: its dimensions modulo the prime. The cycles, which are not printed, are left out.
-pub fn compute(alloc: Global, given: &Given) -> Result<Report, Fault>
-    ensures report { IfOk result (IsPairRightButForCycles given.now) }
+/// The report on the homology of the pair: its dimensions modulo the prime, and the cycles of a basis where they are printed.
+pub fn compute(alloc: Global, given: &Given, cycles: bool) -> Result<Report, Fault>
+    ensures report { IfOk result (IsRightAsShown cycles (Input.Homcubes given.now)) }
     ensures text { IfOk result HasText }
     ensures within { OnOk result (within_cells given.now ≡ Ok given.now) }
     ensures fault { IfErr result (λ fault. (within_cells given.now ≡ Err fault) ⊎ (fault ≡ Fault.OutOfMemory)) }
 {
-    let most = common_dimension(&given.x, &given.a);
-    match dimensions(alloc, given.modulus, &given.x, &given.a, most) {
-        Ok(by_degree) => Ok(Report::Pair(PairReport {
-            dimensions: Dimensions::of(by_degree),
-            cycles: Cycles::of(Vec::new(alloc)),
-        })),
+    match pair_report(alloc, given, cycles) {
+        Ok(pair) => Ok(Report::Pair(pair)),
         Err(CellsFault::TooManyCells) => Err(Fault::Limit {
             count: LimitName::Cells,
             number: CELLS as u64,
         }),
         Err(CellsFault::NoMemory) => Err(Fault::OutOfMemory),
     }
+}
+
+// What is printed on the pair. Cycles that are not printed are left out, and not made.
+fn pair_report(alloc: Global, given: &Given, cycles: bool) -> Result<PairReport, CellsFault>
+    ensures right { IfOk result (λ pair. IsRightAsShown cycles (Input.Homcubes given.now) (Report.Pair pair)) }
+    ensures few { OnOk result (cell_count (given.now.x.cells ++ given.now.a.cells) ≤ CELLS) }
+    ensures many { result ≡ Err CellsFault.TooManyCells → CELLS < cell_count (given.now.x.cells ++ given.now.a.cells) }
+{
+    let most = common_dimension(&given.x, &given.a);
+    if cycles {
+        return basis_of_pair(alloc, given.modulus, &given.x, &given.a, most);
+    }
+    let by_degree = dimensions(alloc, given.modulus, &given.x, &given.a, most)?;
+    Ok(PairReport {
+        dimensions: Dimensions::of(by_degree),
+        cycles: Cycles::of(Vec::new(alloc)),
+    })
 }

@@ -1,7 +1,8 @@
 //! Files as values, or the first refusal.
-ghost use Rattle.std.specs.Prelude.{◌≡◌, ◌≤◌, ◌+◌, ◌*◌, ◌^◌, ◌⊎◌, ◌∷◌, [], length, None, Some, IfOk, IfErr, IfSome, OnOk, Ok, Err};
+ghost use Rattle.std.specs.Prelude.{◌≡◌, ◌≤◌, ◌+◌, ◌*◌, ◌^◌, ◌⊎◌, ◌∷◌, [], length, None, Some, IsTrue, IfOk, IfErr, IfSome, OnOk, Ok, Err};
 ghost use Rattle.outside.specs.Causes.{NoneFell, more};
 ghost use Rattle.grid_files.specs.SetFile.{no_members};
+ghost use Rattle.grid_files.specs.Neighbours.{are_full};
 ghost use Rattle.chomp.specs.Words.{and_subset};
 ghost use Rattle.chomp.specs.Refusal.{Is, IsSetOf, IsSetIn, IsSubsetIn, told_cause, text_fault, reading, file_bytes};
 ghost use Rattle.chomp.specs.Saying.{LoadRestsOn, IsDue};
@@ -22,6 +23,8 @@ pub fn load_set<F: Files>(
     kind: Kind,
 ) -> Result<CubeSet, Fault>
     ensures set { IfOk result (λ set. IfSome (F.holds files.old) (λ disk. IsSetIn kind name.now (reading disk) (Ok set))) }
+    ensures few { IfOk result (λ set. length set.cells ≤ CUBES) }
+    ensures full { kind ≡ Kind.Full → IfOk result (λ set. IsTrue (are_full set.cells)) }
     ensures fault { IfErr result (LoadRestsOn (name.now ∷ []) (IsSetIn kind name.now) (F.holds files.old)
         (F.read_faults files.old) (F.read_faults files.new) (F.given files.old) (F.given files.new)) }
     ensures given { F.given files.new ≤ F.given files.old + (file_bytes + 1) }
@@ -97,6 +100,8 @@ fn load_bytes<F: Files>(
 // The set of a text.
 fn set_of(alloc: Global, name: &Name, bytes: &[u8], kind: Kind) -> Result<CubeSet, Fault>
     ensures set { IfOk result (λ set. IsSetOf kind name.now bytes.now (Ok set)) }
+    ensures few { IfOk result (λ set. length set.cells ≤ CUBES) }
+    ensures full { kind ≡ Kind.Full → IfOk result (λ set. IsTrue (are_full set.cells)) }
     ensures fault { IfErr result (λ fault. IsSetOf kind name.now bytes.now (Err fault) ⊎ (fault ≡ Fault.OutOfMemory)) }
 {
     match read_set(alloc, bytes, kind) {

@@ -2,7 +2,11 @@
 #![tactic(auto)]
 
 mod arguments;
+mod bases;
+mod combine;
 mod command;
+mod cubcells;
+mod cubnbhd;
 mod delivery;
 mod homcubes;
 mod homology;
@@ -55,5 +59,7 @@ fn words_of(rt: &HostRuntime) -> Result<Vec<String>, Fault> {
     }
 }
 
+#[cfg(test)]
+mod set_tests;
 #[cfg(test)]
 mod tests;

@@ -79,8 +79,9 @@ fn answer<F: Files>(alloc: Global, words: &[String], files: &mut F) -> Result<Ve
 {
     let command = command_of(alloc, words)?;
     let input = load(alloc, files, &command)?;
-    let report = compute(alloc, &input)?;
-    match text(alloc, &report, &command.shown()) {
+    let shown = command.shown();
+    let report = compute(alloc, &input, shown.cycles)?;
+    match text(alloc, &report, &shown) {
         Ok(text) => Ok(text),
         Err(_) => Err(Fault::OutOfMemory),
     }

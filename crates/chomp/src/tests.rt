@@ -7,7 +7,7 @@ use std::process::Abort;
 use std::test::Fail;
 use std::thread::Threads;
 
-const FILES: [(&str, &str); 23] = [
+const FILES: [(&str, &str); 24] = [
     ("e", ""),
     ("q", "(0 0)"),
     ("-", "(0 0)"),
@@ -41,6 +41,7 @@ const FILES: [(&str, &str); 23] = [
     ("zero", "dimension 0"),
     ("second", "x)\n)"),
     ("half", "[(0 0)(1 "),
+    ("two", "(5) (0)"),
 ];
 
 #[derive(Drop)]
@@ -195,6 +196,43 @@ const PAIRS_AND_MODULI: [Row; 9] = [
     },
 ];
 
+const WITH_CYCLES: [Row; 7] = [
+    Row {
+        words: &["homcubes", "x", "a", "--cycles"],
+        out: "H_0 = 0\nH_1 = Z_2\nz_1_1 = 1 * [(0)(1)]\n",
+        ..DONE
+    },
+    Row {
+        words: &["homcubes", "--cycles", "x", "v"],
+        ..NO_HOMOLOGY
+    },
+    Row {
+        words: &["homcubes", "e", "--cycles"],
+        out: "H_0 = 0\n",
+        ..DONE
+    },
+    Row {
+        words: &["homcubes", "--cycles", "q"],
+        out: "H_0 = Z_2\nz_0_1 = 1 * [(1 1)(1 1)]\nH_1 = 0\nH_2 = 0\n",
+        ..DONE
+    },
+    Row {
+        words: &["homcubes", "s", "--mod", "3", "--cycles"],
+        out: "H_0 = Z_3\nz_0_1 = 1 * [(1 1)(1 1)]\nH_1 = Z_3\nz_1_1 = 1 * [(0 0)(0 1)] + 2 * [(0 0)(1 0)] + 1 * [(0 1)(1 1)] + 2 * [(1 0)(1 1)]\nH_2 = 0\n",
+        ..DONE
+    },
+    Row {
+        words: &["homcubes", "s", "--mod", "3"],
+        out: "H_0 = Z_3\nH_1 = Z_3\nH_2 = 0\n",
+        ..DONE
+    },
+    Row {
+        words: &["homcubes", "two", "--cycles"],
+        out: "H_0 = Z_2^2\nz_0_1 = 1 * [(1)(1)]\nz_0_2 = 1 * [(6)(6)]\nH_1 = 0\n",
+        ..DONE
+    },
+];
+
 const TEXTS: [Row; 10] = [
     Row {
         words: &["homcubes", "open"],
@@ -290,7 +328,7 @@ const FAULTS: [Row; 7] = [
     },
 ];
 
-const NO_FORMS: [&[&str]; 22] = [
+const NO_FORMS: [&[&str]; 25] = [
     &["homcubes"],
     &["homcubes", ""],
     &["homcubes", "-q"],
@@ -309,7 +347,10 @@ const NO_FORMS: [&[&str]; 22] = [
     &["homcubes", "q", "--mod", "2", "--mod", "2"],
     &["homcubes", "q", "--mod=2", "--mod", "3"],
     &["homcubes", "q", "--", "--mod", "2"],
-    &["homcubes", "q", "--cycles"],
+    &["homcubes", "q", "--cycles", "--cycles"],
+    &["homcubes", "--cycles", "q", "--mod", "3", "--cycles"],
+    &["homcubes", "q", "--cycles="],
+    &["homcubes", "q", "--cycles=1"],
     &["homcubes", "q", "--matrix"],
     &["homcubes", "--help"],
     &["homcubes", "--version"],
@@ -362,6 +403,14 @@ fn sets_have_their_homology(rt: HostRuntime) -> Result<(), Fail> {
 #[test]
 fn pairs_and_moduli_have_their_homology(rt: HostRuntime) -> Result<(), Fail> {
     for row in &PAIRS_AND_MODULI {
+        answers(&rt, rt.alloc(), row)?;
+    }
+    Ok(())
+}
+
+#[test]
+fn cycles_are_printed_where_asked(rt: HostRuntime) -> Result<(), Fail> {
+    for row in &WITH_CYCLES {
         answers(&rt, rt.alloc(), row)?;
     }
     Ok(())

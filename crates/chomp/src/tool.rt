@@ -7,6 +7,14 @@ ghost use Rattle.chomp.specs.Forms.{form_of, tool_named, option_named, takes_val
 pub enum Tool {
     /// The homology of a set or a pair.
     Homcubes,
+    /// The union of two sets.
+    Cubunion,
+    /// The intersection of two sets.
+    Cubinter,
+    /// The neighbourhood of a set of full cubes.
+    Cubnbhd,
+    /// The cells of a set.
+    Cubcells,
 }
 
 /// An option of a tool.
@@ -14,6 +22,8 @@ pub enum Tool {
 pub enum Choice {
     /// The modulus of the coefficients.
     Modulus,
+    /// That the cycles are printed.
+    Cycles,
 }
 
 impl Tool {
@@ -23,6 +33,10 @@ impl Tool {
     {
         match word {
             "homcubes" => Some(Tool::Homcubes),
+            "cubunion" => Some(Tool::Cubunion),
+            "cubinter" => Some(Tool::Cubinter),
+            "cubnbhd" => Some(Tool::Cubnbhd),
+            "cubcells" => Some(Tool::Cubcells),
             _ => None,
         }
     }
@@ -33,6 +47,10 @@ impl Tool {
     {
         match self {
             Tool::Homcubes => "homcubes",
+            Tool::Cubunion => "cubunion",
+            Tool::Cubinter => "cubinter",
+            Tool::Cubnbhd => "cubnbhd",
+            Tool::Cubcells => "cubcells",
         }
     }
 
@@ -41,7 +59,8 @@ impl Tool {
         ensures { result ≡ (form_of self).fewest }
     {
         match self {
-            Tool::Homcubes => 1,
+            Tool::Homcubes | Tool::Cubnbhd | Tool::Cubcells => 1,
+            Tool::Cubunion | Tool::Cubinter => 2,
         }
     }
 
@@ -50,7 +69,8 @@ impl Tool {
         ensures { result ≡ (form_of self).most }
     {
         match self {
-            Tool::Homcubes => 2,
+            Tool::Homcubes | Tool::Cubunion | Tool::Cubinter => 2,
+            Tool::Cubnbhd | Tool::Cubcells => 1,
         }
     }
 
@@ -61,8 +81,10 @@ impl Tool {
         match self {
             Tool::Homcubes => match word {
                 "--mod" => Some(Choice::Modulus),
+                "--cycles" => Some(Choice::Cycles),
                 _ => None,
             },
+            Tool::Cubunion | Tool::Cubinter | Tool::Cubnbhd | Tool::Cubcells => None,
         }
     }
 }
@@ -74,6 +96,7 @@ impl Choice {
     {
         match self {
             Choice::Modulus => true,
+            Choice::Cycles => false,
         }
     }
 
@@ -83,6 +106,8 @@ impl Choice {
     {
         match (self, other) {
             (Choice::Modulus, Choice::Modulus) => true,
+            (Choice::Cycles, Choice::Cycles) => true,
+            _ => false,
         }
     }
 }

@@ -1,7 +1,9 @@
-use Rattle.std.proofs.Common.{ap, ◌∙◌}
+use Rattle.std.proofs.Common.{ap, ◌∙◌, subst}
 use Rattle.std.proofs.lemmas.Result.{err_from_is_err_and}
+use Rattle.report.specs.declared.reports.Shown.{Shown}
 use Rattle.report.specs.ReportText.{report_text}
 use Rattle.chomp.specs.Forms.{spoken}
+use Rattle.chomp.specs.Right.{IsRightAsShown}
 use Rattle.chomp.proofs.Answering.{rests_on_limit, answers}
 use Rattle.chomp.proofs.run.answer.Goals as goal
 
@@ -17,5 +19,6 @@ returns-in_err-report-clause-fault g c =
 pub returns-in-Ok-clause-right : goal.returns-in-Ok-clause-right
 returns-in-Ok-clause-right g c =
     answers (spoken c.args.words.now) (g.F.Files.holds c.args.files.now) c.in_ok-command.command c.in_ok-input.input c.in_ok-report.report c.in-Ok.text.items
-    c.in_ok-command.ensures c.in_ok-input.ensures.input c.in_ok-report.ensures.within c.in_ok-report.ensures.report
-    (c.in-Ok.ensures ∙ ap (report_text c.in_ok-report.report) c.shown.ensures)
+    c.in_ok-command.ensures c.in_ok-input.ensures.input c.in_ok-report.ensures.within
+    (subst (λ (shown : Shown). IsRightAsShown shown.cycles c.in_ok-input.input c.in_ok-report.report) c.shown-shown.ensures c.in_ok-report.ensures.report)
+    (c.in-Ok.ensures ∙ ap (report_text c.in_ok-report.report) c.shown-shown.ensures)

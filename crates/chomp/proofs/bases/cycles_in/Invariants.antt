@@ -1,0 +1,7 @@
+use Rattle.std.proofs.Common.{◌≡◌, map, take}
+use Rattle.cell_complex.specs.Numbering.{cell_terms}
+use Rattle.homology_basis.specs.Bases.{in_degree}
+use Rattle.chomp.proofs.bases.cycles_in.Given as goal
+
+abbrev pub invariant-loop-number : goal.invariant-loop-number
+invariant-loop-number g l = l.cycles.items ≡ map (cell_terms l.cells) (take l.number (in_degree l.basis.cycles l.degree))
