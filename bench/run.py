@@ -2,10 +2,14 @@
 """Times the proved program on inputs that are made here, and prints a table.
 
     bin/chomp homcubes examples/ring.txt     builds the program where it is missing
-    bench/run.py [--quick]
+    bench/run.py                             all inputs, some minutes
+    bench/run.py --quick                     small inputs alone, under half a minute
+    bench/run.py --only WORD                 the lines whose names have this word
+    bench/run.py --program FILE              another program than that of this repository
 
-Each line has the number of cells, the best wall time of three runs and the peak memory, in all and for each cell.
-The answers are compared with what is known of the input. Nothing but Python is needed; the gate does not run this.
+Each line has the number of cells (generators of a chain file, members of a set that is printed), the best wall time of three
+runs and the peak memory, in all and for each cell. Answers are compared with what is known of the input. Nothing but Python
+is needed; the gate does not run this.
 """
 import argparse
 import os
@@ -16,49 +20,104 @@ import time
 from concurrent.futures import ProcessPoolExecutor
 from itertools import product
 from pathlib import Path
+from typing import Callable, NamedTuple, Optional
 
 ROOT = Path(__file__).resolve().parent.parent
-PROGRAM = ROOT / "crates" / "chomp" / "out" / "chomp"
+
+
+# ---- inputs: each maker answers a text and the number of its cells
+
+def set_text(cubes):
+    return "\n".join("(" + " ".join(map(str, cube)) + ")" for cube in cubes) + "\n"
 
 
 def squares_with_holes(n):
-    """A board of 2n + 1 by 2n + 1 squares without those that are odd in both coordinates: one piece, n * n holes."""
+    """A board of 2n + 1 by 2n + 1 squares without those that are odd in both coordinates."""
     side = range(2 * n + 1)
-    squares = [(x, y) for x in side for y in side if x % 2 == 0 or y % 2 == 0]
-    return squares, 15 * n * n + 24 * n + 9, [1, n * n, 0]
-
-
-def random_cubes(dimension, side, share, seed):
-    """Each cube of a block is taken with this share."""
-    chance = random.Random(seed)
-    cubes = [cube for cube in product(range(side), repeat=dimension) if chance.random() < share]
-    return cubes, count_cells(cubes), None
-
-
-def count_cells(cubes):
-    """The number of faces of full cubes: along each axis the lower end, the upper end or the interval between."""
-    cells = set()
-    for cube in cubes:
-        cells.update(product(*((2 * x, 2 * x + 1, 2 * x + 2) for x in cube)))
-    return len(cells)
+    return set_text((x, y) for x in side for y in side if x % 2 == 0 or y % 2 == 0), 15 * n * n + 24 * n + 9
 
 
 def border(n):
     """The outermost squares of the board with holes."""
-    last = 2 * n
-    return [(x, y) for x in range(last + 1) for y in range(last + 1) if x in (0, last) or y in (0, last)]
+    side = range(2 * n + 1)
+    return set_text((x, y) for x in side for y in side if x in (0, 2 * n) or y in (0, 2 * n)), None
 
 
-def written(cubes):
-    return "\n".join("(" + " ".join(map(str, cube)) + ")" for cube in cubes) + "\n"
+def random_cubes(dimension, side, share, seed):
+    """Each cube of a block is taken with this share. A cell is, along each axis, an end or the interval between."""
+    chance = random.Random(seed)
+    cubes = [cube for cube in product(range(side), repeat=dimension) if chance.random() < share]
+    cells = {cell for cube in cubes for cell in product(*((2 * x, 2 * x + 1, 2 * x + 2) for x in cube))}
+    return set_text(cubes), len(cells)
 
 
-def timed(words, folder):
+def board(side, first=0):
+    """Squares from `first` on along the first axis."""
+    return set_text((first + x, y) for x in range(side) for y in range(side)), None
+
+
+def circle(n):
+    """A chain complex of n points and n edges, from each point to the next."""
+    edges = "\n".join(f"# {i} = 1 * {i % n + 1} + -1 * {i}" for i in range(1, n + 1))
+    return f"chain complex max dimension 1\ndimension 0: {n}\ndimension 1: {n}\n{edges}\n", 2 * n
+
+
+def long_boundary(n, seed):
+    """A chain complex of n points and one generator whose boundary names all of them, in random order."""
+    chance = random.Random(seed)
+    points = list(range(1, n + 1))
+    chance.shuffle(points)
+    terms = " + ".join(f"{chance.randint(1, 46)} * {point}" for point in points)
+    return f"chain complex max dimension 1\ndimension 0: {n}\ndimension 1: 1\n# 1 = {terms}\n", n + 1
+
+
+# ---- what is run
+
+class Case(NamedTuple):
+    name: str
+    words: str
+    inputs: dict[str, tuple]
+    dimensions: Optional[list[int]] = None
+    members: Optional[int] = None
+
+
+def holes(n, options="", name="squares with holes"):
+    return Case(f"{name}, N = {n}", f"homcubes X {options}", {"X": (squares_with_holes, n)}, dimensions=[1, n * n, 0])
+
+
+def cases(quick):
+    size = 8 if quick else 1
+    side, half, full = 1000 // size, 724 // size, 1024 // size
+    points = 2**19 // size**2
+    yield from (holes(n) for n in (40, 100, 300, 527) if n < 200 or not quick)
+    yield Case("random squares, 300 by 300, 3/5", "homcubes X", {"X": (random_cubes, 2, 300, 0.6, 1)})
+    yield Case("random cubes, 30 by 30 by 30, 1/2", "homcubes X", {"X": (random_cubes, 3, 30, 0.5, 2)})
+    yield holes(100, "--mod 47", "modulo 47: holes")
+    yield holes(100, "--cycles", "with cycles: holes")
+    # The border goes once round all holes, so relative to it one class of degree 1 is gone, and the piece.
+    yield Case("a pair: holes, N = 100, and border", "homcubes X A", {"X": (squares_with_holes, 100), "A": (border, 100)},
+               dimensions=[0, 100 * 100 - 1, 0])
+    yield Case("chain file: a circle", "homchain C", {"C": (circle, points)}, dimensions=[1, 1])
+    yield Case("chain file: a circle, cycles", "homchain C --mod 47 --cycles", {"C": (circle, points)}, dimensions=[1, 1])
+    yield Case("chain file: a long boundary", "homchain C --mod 47", {"C": (long_boundary, 2 * points - 2, 3)},
+               dimensions=[2 * points - 3, 0])
+    yield Case(f"union of two boards, {half} by {half}", "cubunion X Y", {"X": (board, half), "Y": (board, half, half)},
+               members=2 * half * half)
+    yield Case(f"intersection of two, {full} by {full}", "cubinter X Y", {"X": (board, full), "Y": (board, full, full // 2)},
+               members=full * full // 2)
+    yield Case(f"neighbourhood, {side} by {side}", "cubnbhd X", {"X": (board, side)}, members=(side + 2) ** 2)
+    yield Case(f"cells of a board, {side // 2} by {side // 2}", "cubcells X", {"X": (board, side // 2)},
+               members=(side // 2 * 2 + 1) ** 2)
+
+
+# ---- runs
+
+def timed(program, words, folder):
     """Wall time in seconds, peak memory in bytes, and what was printed."""
     out = folder / "out"
     with open(out, "wb") as sink:
         begin = time.perf_counter()
-        child = os.posix_spawn(PROGRAM, [str(PROGRAM), *words], os.environ,
+        child = os.posix_spawn(program, [str(program), *words], os.environ,
                                file_actions=[(os.POSIX_SPAWN_DUP2, sink.fileno(), 1)])
         _, status, usage = os.wait4(child, 0)
         taken = time.perf_counter() - begin
@@ -69,57 +128,49 @@ def timed(words, folder):
 
 def dimensions(text):
     """The dimensions that the group lines of a report give."""
-    found = []
-    for line in text.splitlines():
-        if line.startswith("H_"):
-            group = line.split(" = ")[1]
-            found.append(0 if group == "0" else int(group.partition("^")[2] or 1))
-    return found
+    groups = [line.split(" = ")[1] for line in text.splitlines() if line.startswith("H_")]
+    return [0 if group == "0" else int(group.partition("^")[2] or 1) for group in groups]
 
 
-def measure(name, words, cells, wanted, folder):
-    runs = [timed(words, folder) for _ in range(3)]
+def compare(case, text):
+    if case.dimensions is not None and dimensions(text) != case.dimensions:
+        sys.exit(f"{case.name}: {dimensions(text)} was printed, {case.dimensions} is right")
+    if case.members is not None and text.count("\n") != case.members + 1:
+        sys.exit(f"{case.name}: {text.count(chr(10)) - 1} members were printed, {case.members} is right")
+
+
+def write_input(path, maker: Callable, *arguments):
+    text, cells = maker(*arguments)
+    path.write_text(text)
+    return cells
+
+
+def measure(program, case, makers, folder):
+    paths = {operand: folder / operand for operand in case.inputs}
+    counts = [makers.submit(write_input, paths[operand], *made).result() for operand, made in case.inputs.items()]
+    words = [str(paths.get(word, word)) for word in case.words.split()]
+    runs = [timed(program, words, folder) for _ in range(3)]
+    compare(case, runs[0][2])
+    cells = case.members or counts[0]
     taken, memory = min(run[0] for run in runs), min(run[1] for run in runs)
-    if wanted is not None and dimensions(runs[0][2]) != wanted:
-        sys.exit(f"{name}: {dimensions(runs[0][2])} was printed, {wanted} is right")
-    print(f"{name:36} {cells:>9} {taken:>8.2f} s {taken / cells * 1e9:>7.0f} ns "
+    print(f"{case.name:36} {cells:>9} {taken:>8.2f} s {taken / cells * 1e9:>7.0f} ns "
           f"{memory / 2**20:>7.0f} MiB {memory / cells:>6.0f} B", flush=True)
-
-
-def make(maker, arguments, path):
-    """Writes an input, and answers the number of its cells and its dimensions where they are known."""
-    cubes, cells, wanted = maker(*arguments)
-    path.write_text(written(cubes))
-    return cells, wanted
-
-
-def make_border(n, path):
-    path.write_text(written(border(n)))
 
 
 def main():
     parser = argparse.ArgumentParser(description=__doc__.splitlines()[0])
-    parser.add_argument("--quick", action="store_true", help="leave out the inputs of over a million cells")
+    parser.add_argument("--quick", action="store_true", help="small inputs alone")
+    parser.add_argument("--only", default="", metavar="WORD", help="the lines whose names have this word")
+    parser.add_argument("--program", type=Path, default=ROOT / "crates" / "chomp" / "out" / "chomp")
     options = parser.parse_args()
-    if not PROGRAM.exists():
+    if not options.program.exists():
         sys.exit("no program yet: run `bin/chomp homcubes examples/ring.txt` first")
-    inputs = [(f"squares with holes, N = {n}", squares_with_holes, (n,)) for n in (40, 100, 300, 527)
-              if n < 200 or not options.quick]
-    inputs.append(("random squares, 300 by 300, 3/5", random_cubes, (2, 300, 0.6, 1)))
-    inputs.append(("random cubes, 30 by 30 by 30, 1/2", random_cubes, (3, 30, 0.5, 2)))
     print(f"{'input':36} {'cells':>9} {'time':>10} {'a cell':>10} {'memory':>11} {'a cell':>8}")
     # Inputs are made in a process of their own: the peak memory of a child is told as at least that of its parent.
-    with tempfile.TemporaryDirectory() as folder, ProcessPoolExecutor(max_workers=1) as maker:
-        folder = Path(folder)
-        x, a = folder / "x", folder / "a"
-        for name, kind, arguments in inputs:
-            cells, wanted = maker.submit(make, kind, arguments, x).result()
-            measure(name, ["homcubes", str(x)], cells, wanted, folder)
-        cells, wanted = maker.submit(make, squares_with_holes, (100,), x).result()
-        measure("with cycles: holes, N = 100", ["homcubes", str(x), "--cycles"], cells, wanted, folder)
-        maker.submit(make_border, 100, a).result()
-        # The border goes once round all holes, so relative to it one class of degree 1 is gone, and the piece.
-        measure("a pair: holes, N = 100, and border", ["homcubes", str(x), str(a)], cells, [0, 100 * 100 - 1, 0], folder)
+    with tempfile.TemporaryDirectory() as folder, ProcessPoolExecutor(max_workers=1) as makers:
+        for case in cases(options.quick):
+            if options.only in case.name:
+                measure(options.program.resolve(), case, makers, Path(folder))
 
 
 if __name__ == "__main__":
