@@ -6,6 +6,7 @@
     bench/run.py --quick                     small inputs alone, under half a minute
     bench/run.py --only WORD                 the lines whose names have this word
     bench/run.py --program FILE              another program than that of this repository
+    bench/run.py --markdown                  the rows of docs/PERFORMANCE.md
 
 Each line has the number of cells (generators of a chain file, members of a set that is printed), the best wall time of three
 runs and the peak memory, in all and for each cell. Answers are compared with what is known of the input. Nothing but Python
@@ -145,7 +146,12 @@ def write_input(path, maker: Callable, *arguments):
     return cells
 
 
+PLAIN = "{:36} {:>9} {:>8.2f} s {:>7.0f} ns {:>7.0f} MiB {:>6.0f} B"
+MARKDOWN = "| {} | {:,} | {:.2f} s | {:.0f} ns | {:.0f} MiB | {:.0f} B |"
+
+
 def measure(program, case, makers, folder):
+    """The name, the number of cells, the time, that of a cell in nanoseconds, the memory in MiB and that of a cell in bytes."""
     paths = {operand: folder / operand for operand in case.inputs}
     counts = [makers.submit(write_input, paths[operand], *made).result() for operand, made in case.inputs.items()]
     words = [str(paths.get(word, word)) for word in case.words.split()]
@@ -153,24 +159,26 @@ def measure(program, case, makers, folder):
     compare(case, runs[0][2])
     cells = case.members or counts[0]
     taken, memory = min(run[0] for run in runs), min(run[1] for run in runs)
-    print(f"{case.name:36} {cells:>9} {taken:>8.2f} s {taken / cells * 1e9:>7.0f} ns "
-          f"{memory / 2**20:>7.0f} MiB {memory / cells:>6.0f} B", flush=True)
+    return case.name, cells, taken, taken / cells * 1e9, memory / 2**20, memory / cells
 
 
 def main():
     parser = argparse.ArgumentParser(description=__doc__.splitlines()[0])
     parser.add_argument("--quick", action="store_true", help="small inputs alone")
     parser.add_argument("--only", default="", metavar="WORD", help="the lines whose names have this word")
+    parser.add_argument("--markdown", action="store_true", help="rows of a table in a document")
     parser.add_argument("--program", type=Path, default=ROOT / "crates" / "chomp" / "out" / "chomp")
     options = parser.parse_args()
     if not options.program.exists():
         sys.exit("no program yet: run `bin/chomp homcubes examples/ring.txt` first")
-    print(f"{'input':36} {'cells':>9} {'time':>10} {'a cell':>10} {'memory':>11} {'a cell':>8}")
+    if not options.markdown:
+        print(f"{'input':36} {'cells':>9} {'time':>10} {'a cell':>10} {'memory':>11} {'a cell':>8}")
     # Inputs are made in a process of their own: the peak memory of a child is told as at least that of its parent.
     with tempfile.TemporaryDirectory() as folder, ProcessPoolExecutor(max_workers=1) as makers:
         for case in cases(options.quick):
             if options.only in case.name:
-                measure(options.program.resolve(), case, makers, Path(folder))
+                row = measure(options.program.resolve(), case, makers, Path(folder))
+                print((MARKDOWN if options.markdown else PLAIN).format(*row), flush=True)
 
 
 if __name__ == "__main__":
