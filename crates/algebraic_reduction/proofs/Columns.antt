@@ -4,11 +4,10 @@ use native.Mathlib.Nat.{zero-mod}
 use Rattle.std.proofs.lemmas.Bool.{cases_eq}
 use Rattle.std.proofs.lemmas.List.{get_or_default}
 use Rattle.field_mod.specs.Modular.{Same, NonZero, minus}
-use Rattle.field_mod.proofs.Modular.{same_by, same_refl, same_sym, same_trans, same-add, same-scale, same-mul}
+use Rattle.field_mod.proofs.Modular.{same_by, same_refl, same_sym, same_trans, same-add, same-scale, same-mul, decide_zero, neg_cancel}
 use Rattle.chains.specs.Terms.{coefficient, IsNormal}
 use Rattle.chains.specs.ChainComplex.{incidence}
 use Rattle.chains.proofs.TermLists.{coefficient-append, coefficient-lt}
-use Rattle.chains.proofs.Dependent.{decide_zero, neg_cancel}
 use Rattle.algebraic_reduction.specs.State.{StandsFrom, Names, NamesStay, AreCovered}
 use Rattle.algebraic_reduction.proofs.Naming.{stands-next, stands-none}
 

@@ -11,10 +11,9 @@ use Rattle.std.proofs.lemmas.Bool.Decides.{nat_tests}
 use Rattle.field_mod.specs.Sums.{total}
 use Rattle.field_mod.specs.Modular.{Same, NonZero, minus}
 use Rattle.field_mod.proofs.Sums.{total_same}
-use Rattle.field_mod.proofs.Modular.{same_by, same_refl, same_trans, same-add, same-scale, same-mul}
+use Rattle.field_mod.proofs.Modular.{same_by, same_refl, same_trans, same-add, same-scale, same-mul, decide_zero}
 use Rattle.chains.specs.Terms.{coefficient, product, IsNormal, IsNormalWithin}
 use Rattle.chains.proofs.Boundary.{product-total}
-use Rattle.chains.proofs.Dependent.{decide_zero}
 use Rattle.algebraic_reduction.specs.Kept.{KeptStep, b_at}
 use Rattle.algebraic_reduction.specs.Maps.{Equations, rest_at}
 use Rattle.algebraic_reduction.proofs.Naming.{coefficient_other}

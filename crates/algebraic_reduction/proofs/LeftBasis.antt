@@ -3,7 +3,7 @@ use Rattle.std.proofs.Common.{◌≡◌, ◌≢◌, ℕ, ◌+◌, ◌*◌, ◌<�
 use Rattle.std.proofs.lemmas.Bool.{cases_eq, cases_lt, lt-ltb}
 use Rattle.field_mod.specs.Sums.{total}
 use Rattle.field_mod.specs.Modular.{Same}
-use Rattle.field_mod.proofs.Sums.{total-same, total-zero, total_same}
+use Rattle.field_mod.proofs.Sums.{total-same, total-zero, total_same, total-single}
 use Rattle.field_mod.proofs.Modular.{same_by, same_refl, same_sym, same_trans, same-add, same-scale}
 use Rattle.algebraic_reduction.specs.Reduction.{boundary_by, Step, IsBoundary, AreSteps, left_all, project_all, include_all, homotopy_all, single, IsUnpaired, IsOnLeft}
 use Rattle.chains.specs.Homology.{IsCycle, IsNull, combination}
@@ -11,7 +11,6 @@ use Rattle.chains.specs.ChainComplex.{ChainComplex, incidence, boundary, IsCompl
 use Rattle.algebraic_reduction.specs.Laws.{include_of, LeftGeneratorsAreBasis}
 use Rattle.algebraic_reduction.proofs.Bridge.{grade, grade_in, grade_past, grade_inside, is_boundary, to_grade, of_grade}
 use Rattle.algebraic_reduction.proofs.Linear.{homotopy-degree}
-use Rattle.chains.proofs.Boundary.{total-single}
 use Rattle.algebraic_reduction.proofs.Steps.{exact, log_identity, log_round_trip, log_include-boundary, log_project-boundary, log_combination, homotopy_all-none, project_all-same, include_all-same, project-off_all, project-degree, include-degree}
 
 pub decide_unpaired : (ss : List Step) (g : ℕ) → IsUnpaired ss g ⊎ ((IsUnpaired ss g) → ⊥)

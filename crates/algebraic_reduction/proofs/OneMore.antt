@@ -7,7 +7,7 @@ use Rattle.std.proofs.lemmas.Map.Keys.{IsDistinct-from_apart}
 use Rattle.std.proofs.lemmas.Map.Steps.{length-le_from_distinct_below}
 use Rattle.std.proofs.Math.Seq.{get_or-append_seam, take-append_seam}
 use Rattle.field_mod.specs.Modular.{Same, NonZero, minus}
-use Rattle.field_mod.proofs.Modular.{same_by, same_refl, same_sym, same_trans, same-add, same-scale, same-mul}
+use Rattle.field_mod.proofs.Modular.{same_by, same_refl, same_sym, same_trans, same-add, same-scale, same-mul, neg_cancel}
 use Rattle.chains.specs.Terms.{coefficient}
 use Rattle.chains.specs.ChainComplex.{ChainComplex, incidence}
 use Rattle.algebraic_reduction.specs.Reduction.{Step, IsStep, IsUnpaired, AreSteps, left}
@@ -15,7 +15,6 @@ use Rattle.algebraic_reduction.specs.Laws.{left_of, AreStepsOf}
 use Rattle.algebraic_reduction.specs.Kept.{KeptStep, steps_of, IsKept, no_step, nth, a_at, b_at}
 use Rattle.algebraic_reduction.specs.LogWords.{IsOneMore}
 use Rattle.algebraic_reduction.specs.State.{Names, NamesStay, AreCovered, place_at, IsState}
-use Rattle.chains.proofs.Dependent.{neg_cancel}
 use Rattle.algebraic_reduction.proofs.Columns.{incidence_set_same, incidence_set_other, reduced}
 use native.Mathlib.Nat.{zero-mod}
 use Rattle.algebraic_reduction.proofs.Bridge.{grade, is_boundary}

@@ -3,12 +3,10 @@ use Rattle.std.proofs.Common.{◌≡◌, ◌≢◌, ℕ, zero, suc, ◌+◌, ◌
 use Rattle.std.proofs.lemmas.Bool.{cases_eq}
 use Rattle.field_mod.specs.Sums.{total}
 use Rattle.field_mod.specs.Modular.{Same, minus}
-use Rattle.field_mod.proofs.Sums.{total-same, total-zero, total-add, total-scale, total-swap, total_same}
-use Rattle.field_mod.proofs.Modular.{same_by, same_refl, same_sym, same_trans, same-add, same-scale, same-mul}
+use Rattle.field_mod.proofs.Sums.{total-same, total-zero, total-add, total-scale, total-swap, total_same, total-single}
+use Rattle.field_mod.proofs.Modular.{same_by, same_refl, same_sym, same_trans, same-add, same-scale, same-mul, neg_cancel, one_nonzero}
 use Rattle.algebraic_reduction.specs.Reduction.{boundary_by, Step, project, include, homotopy, left, IsBoundary, IsStep, IsOff}
 use Rattle.chains.proofs.TermLists.{eqb_cases}
-use Rattle.chains.proofs.Boundary.{total-single}
-use Rattle.chains.proofs.Dependent.{neg_cancel, one_nonzero}
 
 pub eqb_sym : (a b : ℕ) → eqb a b ≡ eqb b a
 eqb_sym a b = elim (eqb b a) as (λ v. eqb b a ≡ v → eqb a b ≡ v) [ true ↦ λ e. eq-eqb a b (sym (eqb-true b a e)) | false ↦ λ e. ne_eqb a b (λ q. let r = eq-eqb b a (sym q) in absurd (true≢false (sym r ∙ e))) ] refl

@@ -3,15 +3,13 @@ use Rattle.std.proofs.Common.{◌≡◌, ◌≢◌, ℕ, suc, ◌+◌, ◌-◌, 
 use Rattle.std.proofs.lemmas.Bool.{cases_eq, cases_lt}
 use Rattle.field_mod.specs.Sums.{total}
 use Rattle.field_mod.specs.Modular.{Same, minus}
-use Rattle.field_mod.proofs.Sums.{total-same, total-add, total-scale, total_same}
-use Rattle.field_mod.proofs.Modular.{same_by, same_refl, same_sym, same_trans, same-add, same-scale, same-mul}
+use Rattle.field_mod.proofs.Sums.{total-same, total-add, total-scale, total_same, total-single}
+use Rattle.field_mod.proofs.Modular.{same_by, same_refl, same_sym, same_trans, same-add, same-scale, same-mul, neg_cancel}
 use Rattle.chains.specs.Terms.{coefficient}
 use Rattle.algebraic_reduction.specs.Maps.{IsNoB, projected, rest_at, IsSettled, columns, rows}
 use Rattle.algebraic_reduction.specs.Reduction.{boundary_by, single, Step, IsBoundary, IsStep, IsUnpaired, IsOnLeft, left, project, project_all, include, include_all, homotopy, homotopy_all, AreSteps}
 use Rattle.algebraic_reduction.specs.Laws.{AreApart}
 use Rattle.algebraic_reduction.specs.Kept.{KeptStep, steps_of, IsKept, AreKept, a_at, b_at, inverse_at, column_at}
-use Rattle.chains.proofs.Boundary.{total-single}
-use Rattle.chains.proofs.Dependent.{neg_cancel}
 use Rattle.algebraic_reduction.proofs.OneStep.{eqb_sym, include-same}
 use Rattle.algebraic_reduction.proofs.Steps.{step_one, project-off_all}
 use Rattle.algebraic_reduction.proofs.LeftBasis.{decide_unpaired, off_paired}

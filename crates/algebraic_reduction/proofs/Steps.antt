@@ -4,11 +4,10 @@ use Rattle.std.proofs.lemmas.Bool.{cases_eq}
 use Rattle.field_mod.specs.Sums.{total}
 use Rattle.field_mod.specs.Modular.{Same, minus}
 use Rattle.field_mod.proofs.Sums.{total-same, total-zero, total_same}
-use Rattle.field_mod.proofs.Modular.{same_by, same_refl, same_sym, same_trans, same-add, same-scale, same-mul}
+use Rattle.field_mod.proofs.Modular.{same_by, same_refl, same_sym, same_trans, same-add, same-scale, same-mul, one_nonzero}
 use Rattle.algebraic_reduction.specs.Reduction.{boundary_by, Step, project, include, homotopy, left, IsBoundary, IsStep, IsOff, IsOnLeft, AreSteps, left_all, project_all, include_all, homotopy_all}
 use Rattle.algebraic_reduction.proofs.OneStep.{identity, project-same, include-same, include-add, homotopy-same, apply-add, project-off, project-boundary, include-boundary, left_is_boundary, row, row_none, round_trip, include-combination, degrees}
 use Rattle.chains.proofs.TermLists.{eqb_cases}
-use Rattle.chains.proofs.Dependent.{one_nonzero}
 
 -- neither row nor column of v is left
 pub record IsDead (p : ℕ) (D : ℕ → ℕ → ℕ) (v : ℕ) : Type 0 where

@@ -6,12 +6,12 @@ use mir.Val.{to_z, of_z}
 use mir.Syntax.{w8, w64}
 use Rattle.std.specs.Ordering.{int_eq}
 use Rattle.field_mod.specs.Modular.{Same}
-use Rattle.field_mod.proofs.Modular.{same_by, same_trans}
+use Rattle.field_mod.proofs.Modular.{same_by, same_trans, neg_cancel}
 use Rattle.elem_cubes.specs.Cells.{Factor, point, interval, same_cell}
 use Rattle.elem_cubes.specs.Faces.{behind, faces_of}
 use Rattle.elem_cubes.specs.Boundary.{residue, boundary_coefficient, boundary_pairing, signed_sum}
 use Rattle.cell_complex.specs.Boundaries.{unit_at, IsSign, HaveSigns}
-use Rattle.elem_cubes.proofs.Modular.{exact, neg_cancel, either-none}
+use Rattle.elem_cubes.proofs.Modular.{exact, either-none}
 use Rattle.elem_cubes.proofs.Signs.{sum_over_faces}
 
 pairing-none : (p : ℕ) (q : List Factor) → boundary_pairing p q (λ r. 0) ≡ 0

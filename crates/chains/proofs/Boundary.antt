@@ -7,23 +7,9 @@ use Rattle.field_mod.specs.Sums.{total}
 use Rattle.field_mod.specs.Modular.{Same}
 use Rattle.chains.specs.Terms.{coefficient, product, IsNormalWithin}
 use Rattle.chains.specs.ChainComplex.{incidence, boundary}
-use Rattle.field_mod.proofs.Sums.{total-same, total-zero, total-add}
+use Rattle.field_mod.proofs.Sums.{total-same, total-zero, total-add, total-single, total-beside}
 use Rattle.field_mod.proofs.Modular.{same_by, same_refl, same_trans, same-add}
 use Rattle.chains.proofs.TermLists.{coefficient-append, low-le-high}
-
-total-none : (n k a : ℕ) (f : ℕ → ℕ) → n ≤ k → total n (λ h. cond (eqb k h) a 0 * f h) ≡ 0
-total-none n k a f l = total-same n (λ h. cond (eqb k h) a 0 * f h) (λ h. 0) (λ h m. rw (ne_eqb k h (omega arith)) (zero-mul (f h))) ∙ total-zero n
-
-eqb-suc : (a b : ℕ) → eqb (suc a) (suc b) ≡ eqb a b
-eqb-suc a b = elim (eqb a b) as (λ v. eqb a b ≡ v → eqb (suc a) (suc b) ≡ v) [ true ↦ λ e. let q = eqb-true a b e in eq-eqb (suc a) (suc b) (omega arith) | false ↦ λ e. ne_eqb (suc a) (suc b) (λ q. let r : a ≡ b = omega arith in true≢false (sym (eq-eqb a b r) ∙ e)) ] refl
-
-pub total-single : (n k a : ℕ) (f : ℕ → ℕ) → k < n → total n (λ h. cond (eqb k h) a 0 * f h) ≡ a * f k
-total-single zero k a f l = absurd (omega arith)
-total-single (suc n) zero a f l = omega (arith, total-same n (λ h. cond (eqb 0 (suc h)) a 0 * f (suc h)) (λ h. 0) (λ h m. rw (ne_eqb 0 (suc h) (omega arith)) (zero-mul (f (suc h)))), total-zero n)
-total-single (suc n) (suc k) a f l =
-    let z : cond (eqb (suc k) 0) a 0 * f 0 ≡ 0 = rw (ne_eqb (suc k) 0 (omega arith)) (zero-mul (f 0)) in
-    let e = total-same n (λ h. cond (eqb (suc k) (suc h)) a 0 * f (suc h)) (λ h. cond (eqb k h) a 0 * f (suc h)) (λ h m. ap (λ b. cond b a 0 * f (suc h)) (eqb-suc k h)) in
-    omega (arith, z, e, total-single n k a (λ h. f (suc h)) (omega arith))
 
 boundary-append : (bs : List (List (ℕ × ℕ))) (ts us : List (ℕ × ℕ)) (g : ℕ) → boundary bs (coefficient (ts ++ us)) g ≡ boundary bs (coefficient ts) g + boundary bs (coefficient us) g
 boundary-append bs ts us g =
@@ -36,7 +22,7 @@ boundary-one bs t g =
     ⊎_elim
     (λ l. e ∙ total-single (length bs) t.0 t.1 (λ h. incidence bs h g) l)
     (λ l. let z : incidence bs t.0 g ≡ 0 = ap (λ ts. coefficient ts g) (get_or_past bs t.0 [] l) in
-    e ∙ total-none (length bs) t.0 t.1 (λ h. incidence bs h g) l ∙ sym (ap (λ n. t.1 * n) z ∙ mul-zero t.1))
+    e ∙ total-beside (length bs) t.0 t.1 (λ h. incidence bs h g) l ∙ sym (ap (λ n. t.1 * n) z ∙ mul-zero t.1))
     (cases_lt t.0 (length bs))
 
 -- ---- the products of a chain's terms with the terms of their boundaries, collected term by term

@@ -6,8 +6,8 @@ use Rattle.field_mod.specs.Modular.{Same, IsField}
 use Rattle.field_mod.proofs.Sums.{total-same, total-zero, total-add, total-scale, total-swap, total_same}
 use Rattle.field_mod.proofs.Modular.{same_by, same_refl, same_sym, same_trans, same-add, same-scale, same-mul}
 use Rattle.chains.specs.Homology.{System, IsChain, IsBasis, combination, IsBoundaryOperator}
-use Rattle.chains.proofs.Dependent.{solve}
 use Rattle.chains.proofs.Systems.{chain-zero, chain-combination}
+use Rattle.field_mod.proofs.Solutions.{solve}
 
 -- how a cycle w of one basis is spanned by the other, where it is one
 record Spanning {G : Type 0} (p : ℕ) (K : System G) (k m : ℕ) (z : ℕ → G → ℕ) (w : G → ℕ) (inside : Type 0) : Type 0 where

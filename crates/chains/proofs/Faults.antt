@@ -3,11 +3,11 @@ use Rattle.std.proofs.Common.{◌≡◌, ◌≢◌, ℕ, ◌+◌, ◌%◌, ◌^�
 use Rattle.std.proofs.lemmas.Bool.{cases_lt}
 use Rattle.std.proofs.lemmas.List.{drop_more, drop_all, get_or_default}
 use Rattle.field_mod.specs.Modular.{Same}
-use Rattle.chains.proofs.Dependent.{decide_zero}
 use native.Mathlib.Nat.{zero-mod}
 use Rattle.chains.specs.Terms.{coefficient, IsNormal}
 use Rattle.chains.specs.ChainComplex.{IsMisplaced, IsFirstAt, IsBadDegree, IsNotZero, IsFirst, boundary, incidence}
 use Rattle.chains.proofs.TermLists.{Seeking, seek_start, seek_next_at, named_at, coefficient-below, raised}
+use Rattle.field_mod.proofs.Modular.{decide_zero}
 
 -- a generator that no term before i names, and that some term names, stands at i or after
 at_or_after : (p g : ℕ) (ts : List (ℕ × ℕ)) (i : ℕ) → i < length ts → Seeking p g ts (drop i ts) → coefficient ts g ≢ 0 → (get_or ts i (0, 0)).0 ≤ g

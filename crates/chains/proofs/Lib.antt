@@ -3,7 +3,6 @@ pub mod Merging
 pub mod Lookup
 pub mod Dotting
 pub mod Summing
-pub mod Dependent
 pub mod Boundary
 pub mod Faults
 pub mod Systems

@@ -4,11 +4,10 @@ use Rattle.std.specs.Prelude.{nat_lt}
 use Rattle.std.proofs.lemmas.Bool.{cases_eq, cases_lt, lt-ltb}
 use Rattle.field_mod.specs.Sums.{total}
 use Rattle.field_mod.specs.Modular.{Same, IsField}
-use Rattle.field_mod.proofs.Sums.{total-same, total-zero, total-scale, total-swap, total_same}
+use Rattle.field_mod.proofs.Sums.{total-same, total-zero, total-scale, total-swap, total_same, all_zero}
 use Rattle.field_mod.proofs.Modular.{same_by, same_refl, same_trans, same-mul}
 use Rattle.chains.specs.Homology.{IsChain, IsNull, IsCycle, IsBoundaryOperator}
 use Rattle.chains.specs.ChainComplex.{ChainComplex, IsComplex, IsBasisOf, incidence, boundary, system}
-use Rattle.chains.proofs.Dependent.{all_zero}
 use Rattle.chains.proofs.Exchange.{one_length}
 
 -- the boundary is linear, not only modulo p

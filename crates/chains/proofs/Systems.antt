@@ -4,7 +4,7 @@ use Rattle.std.proofs.lemmas.Bool.{cases_eq}
 use Rattle.field_mod.specs.Modular.{Same}
 use Rattle.field_mod.proofs.Modular.{same_by, same_refl, same_sym, same_trans, same-add, same-scale}
 use Rattle.chains.specs.Homology.{System, IsChain, IsBoundaryOf, IsCycle, IsNull, combination, IsBoundaryOperator}
-use Rattle.chains.proofs.Dependent.{all_zero}
+use Rattle.field_mod.proofs.Sums.{all_zero}
 
 -- ---- chains of one degree
 

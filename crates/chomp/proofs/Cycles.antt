@@ -5,14 +5,13 @@ use Rattle.field_mod.specs.Sums.{total}
 use Rattle.field_mod.specs.Modular.{Same}
 use Rattle.field_mod.specs.Moduli.{IsModulus}
 use Rattle.field_mod.proofs.Sums.{total_same, total-zero}
-use Rattle.field_mod.proofs.Modular.{same_by, same_sym, same_trans, same-scale}
+use Rattle.field_mod.proofs.Modular.{same_by, same_sym, same_trans, same-scale, one_nonzero}
 use Rattle.field_mod.proofs.Table.{two_le}
 use Rattle.elem_cubes.specs.Cells.{Factor}
 use Rattle.chains.specs.Terms.{coefficient, nth_chain, IsNormalWithin}
 use Rattle.chains.specs.Homology.{IsNull, IsBasis, combination}
 use Rattle.chains.specs.ChainComplex.{ChainComplex, IsComplex, IsBasisOf, system}
 use Rattle.chains.proofs.TermLists.{coefficient-above}
-use Rattle.chains.proofs.Dependent.{one_nonzero}
 use Rattle.chains.proofs.Systems.{null-zero, null-same}
 use Rattle.chains.proofs.Numbered.{is_boundary_operator}
 use Rattle.cell_complex.specs.RelativeComplex.{relative_complex}

@@ -6,15 +6,15 @@ use Rattle.std.proofs.lemmas.Bool.{cases_eq}
 use Rattle.std.proofs.lemmas.Int.{ints}
 use Rattle.field_mod.specs.Sums.{total}
 use Rattle.field_mod.specs.Modular.{Same}
-use Rattle.field_mod.proofs.Sums.{total-same, total-zero}
-use Rattle.field_mod.proofs.Modular.{same_by, same_refl, same_trans, same-add, same-scale}
+use Rattle.field_mod.proofs.Sums.{total-same, total-zero, total-single}
+use Rattle.field_mod.proofs.Modular.{same_by, same_refl, same_trans, same-add, same-scale, neg_cancel}
 use Rattle.elem_cubes.specs.Cells.{Factor, point, interval, same_cell}
 use Rattle.elem_cubes.specs.Faces.{IsFace}
 use Rattle.elem_cubes.specs.Boundary.{boundary_coefficient, boundary_at}
 use Rattle.elem_cubes.specs.Laws.{cell_at, BoundaryOfBoundaryIsZero, BoundaryAtIsBoundary}
 use Rattle.elem_cubes.specs.OrderLemmas.{int_same, int_refl, cell_refl, cell_cases}
 use Rattle.elem_cubes.proofs.FaceLemmas.{face_refl}
-use Rattle.elem_cubes.proofs.Modular.{exact, neg_cancel, either-none, total-single}
+use Rattle.elem_cubes.proofs.Modular.{exact, either-none}
 
 -- 1 at the cell r
 abbrev pub at_cell : List Factor → List Factor → ℕ

@@ -4,15 +4,11 @@ use Rattle.std.specs.Prelude.{ℤ, pos, negsuc, neg_ℤ}
 use Rattle.field_mod.specs.Sums.{total}
 use Rattle.field_mod.specs.Modular.{Same}
 use Rattle.field_mod.proofs.Sums.{total-same, total-zero}
-use Rattle.field_mod.proofs.Modular.{same_by, same_trans}
+use Rattle.field_mod.proofs.Modular.{same_by, same_trans, neg_cancel}
 use Rattle.elem_cubes.specs.Boundary.{residue}
 
 pub exact : (p : ℕ) {a b : ℕ} → a ≡ b → Same p a b
 exact p e = same_by p 0 0 _ _ (ap (λ v. v + p * 0) e)
-
-pub neg_cancel : (p x : ℕ) → 1 ≤ p → (p - 1) * x + x ≡ p * x
-neg_cancel zero x h = absurd (omega arith)
-neg_cancel (suc p) x h = let e : suc p - 1 ≡ p = omega arith in rw e (omega arith)
 
 -- minus twice is nothing
 pub minus_minus : (p x : ℕ) → 1 ≤ p → Same p ((p - 1) * ((p - 1) * x)) x
@@ -33,15 +29,3 @@ residue_neg p (negsuc n) h = same_trans (exact p (let e : suc n ≡ n + 1 = omeg
 pub either-none : (v : Bool) → ◌≡◌ {A = ℕ} (cond v 0 0) 0
 either-none true = refl
 either-none false = refl
-
-eqb-suc : (a b : ℕ) → eqb (suc a) (suc b) ≡ eqb a b
-eqb-suc a b = elim (eqb a b) as (λ v. eqb a b ≡ v → eqb (suc a) (suc b) ≡ v) [ true ↦ λ e. let q = eqb-true a b e in eq-eqb (suc a) (suc b) (omega arith) | false ↦ λ e. ne_eqb (suc a) (suc b) (λ q. let r : a ≡ b = omega arith in true≢false (sym (eq-eqb a b r) ∙ e)) ] refl
-
--- a sum with one term
-pub total-single : (n k a : ℕ) (f : ℕ → ℕ) → k < n → total n (λ h. cond (eqb k h) a 0 * f h) ≡ a * f k
-total-single zero k a f l = absurd (omega arith)
-total-single (suc n) zero a f l = omega (arith, total-same n (λ h. cond (eqb 0 (suc h)) a 0 * f (suc h)) (λ h. 0) (λ h m. rw (ne_eqb 0 (suc h) (omega arith)) (zero-mul (f (suc h)))), total-zero n)
-total-single (suc n) (suc k) a f l =
-    let z : cond (eqb (suc k) 0) a 0 * f 0 ≡ 0 = rw (ne_eqb (suc k) 0 (omega arith)) (zero-mul (f 0)) in
-    let e = total-same n (λ h. cond (eqb (suc k) (suc h)) a 0 * f (suc h)) (λ h. cond (eqb k h) a 0 * f (suc h)) (λ h m. ap (λ b. cond b a 0 * f (suc h)) (eqb-suc k h)) in
-    omega (arith, z, e, total-single n k a (λ h. f (suc h)) (omega arith))

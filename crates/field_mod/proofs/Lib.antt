@@ -1,3 +1,4 @@
 pub mod Modular
 pub mod Sums
 pub mod Table
+pub mod Solutions

@@ -3,11 +3,10 @@ use Rattle.std.proofs.Common.{◌≡◌, ◌≢◌, ℕ, zero, suc, ◌+◌, ◌
 use Rattle.std.proofs.lemmas.Bool.{cases_eq, cases_lt, le-ltb, ltb-false}
 use Rattle.field_mod.specs.Sums.{total}
 use Rattle.field_mod.specs.Modular.{Same}
-use Rattle.field_mod.proofs.Sums.{total-same, total-zero}
+use Rattle.field_mod.proofs.Sums.{total-same, total-zero, total-single}
 use Rattle.field_mod.proofs.Modular.{same_refl, same_trans}
 use Rattle.chains.specs.Homology.{IsChain}
 use Rattle.chains.specs.ChainComplex.{ChainComplex, IsComplex, system, incidence, boundary}
-use Rattle.chains.proofs.Boundary.{total-single}
 use Rattle.chains.proofs.Numbered.{degree_above}
 use Rattle.algebraic_reduction.specs.Reduction.{single, Step, IsUnpaired, IsOnLeft}
 use Rattle.algebraic_reduction.specs.Laws.{IsLeft}

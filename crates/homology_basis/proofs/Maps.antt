@@ -4,9 +4,8 @@ use Rattle.std.proofs.Common.{◌≡◌, ◌≢◌, ℕ, zero, suc, ◌+◌, ◌
 use Rattle.std.proofs.lemmas.Bool.{cases_eq, cases_lt}
 use Rattle.field_mod.specs.Sums.{total}
 use Rattle.field_mod.specs.Modular.{Same}
-use Rattle.field_mod.proofs.Sums.{total-same, total-zero, total_same}
+use Rattle.field_mod.proofs.Sums.{total-same, total-zero, total_same, total-single}
 use Rattle.field_mod.proofs.Modular.{same_by, same_refl, same_trans, same-add, same-scale}
-use Rattle.chains.proofs.Boundary.{total-single}
 use Rattle.algebraic_reduction.specs.Reduction.{single}
 use Rattle.algebraic_reduction.specs.Laws.{IsLinear}
 

@@ -1,8 +1,7 @@
 -- From a square matrix of size e to one of size d = e + 1 that kills a vector
 use Rattle.std.proofs.Common.{◌≡◌, ℕ, zero, suc, ◌+◌, ◌-◌, ◌*◌, ◌<◌, ◌≤◌, sym, arith, subst}
 use Rattle.field_mod.specs.Modular.{Same}
-use Rattle.field_mod.proofs.Modular.{same_by, same_refl, same_trans, same-add}
-use Rattle.leray_conley.proofs.Totals.{neg_cancel}
+use Rattle.field_mod.proofs.Modular.{same_by, same_refl, same_trans, same-add, neg_cancel}
 use Rattle.leray_conley.specs.Products.{product, identity, power, AreSame, none}
 use Rattle.leray_conley.proofs.Algebra.{plus, by, chain, add, mul_left, mul_right, assoc, sum_mul, mul_sum, one_mul, mul_one, mul_none, none_mul, sum_none}
 

@@ -3,8 +3,8 @@ use Rattle.std.proofs.Common.{◌≡◌, ℕ, zero, suc, ◌+◌, ◌-◌, ◌*�
 use Rattle.field_mod.specs.Sums.{total}
 use Rattle.field_mod.specs.Modular.{Same}
 use Rattle.field_mod.proofs.Sums.{total-same, total-scale}
-use Rattle.field_mod.proofs.Modular.{same_by, same_refl, same_sym, same_trans, same-add, same-scale}
-use Rattle.leray_conley.proofs.Totals.{exact, total-at, neg_cancel}
+use Rattle.field_mod.proofs.Modular.{same_by, same_refl, same_sym, same_trans, same-add, same-scale, neg_cancel}
+use Rattle.leray_conley.proofs.Totals.{exact, total-at}
 use Rattle.leray_conley.specs.Products.{product, identity, AreSame, none}
 use Rattle.leray_conley.specs.Kernels.{IsKilled}
 use Rattle.leray_conley.proofs.Algebra.{plus}

@@ -5,12 +5,12 @@ use Rattle.std.proofs.lemmas.List.{get_or-set_same, get_or-set_other, get_or_app
 use native.Mathlib.Nat.{mod-mod}
 use Rattle.field_mod.specs.Sums.{total}
 use Rattle.field_mod.specs.Modular.{Same, minus}
-use Rattle.field_mod.proofs.Sums.{total-same, total-add, total-scale, total_same}
-use Rattle.field_mod.proofs.Modular.{same_by, same_refl, same_sym, same_trans, same-add, same-scale, same-mul}
+use Rattle.field_mod.proofs.Sums.{total-same, total-add, total-scale, total_same, total_none}
+use Rattle.field_mod.proofs.Modular.{same_by, same_refl, same_sym, same_trans, same-add, same-scale, same-mul, neg_cancel}
 use Rattle.leray_conley.specs.Products.{identity}
 use Rattle.leray_conley.specs.Kernels.{IsInKernel}
 use Rattle.leray_conley.specs.Echelons.{along, IsEchelon, IsExtended}
-use Rattle.leray_conley.proofs.Totals.{exact, neg_cancel, total_none}
+use Rattle.leray_conley.proofs.Totals.{exact}
 
 pub same_mod : (p a : ℕ) → Same p (a % p) a
 same_mod p a = record { same = mod-mod a p }

@@ -2,12 +2,13 @@
 use Rattle.std.proofs.Common.{◌≡◌, ℕ, zero, suc, ◌+◌, ◌-◌, ◌*◌, ◌%◌, ◌<◌, ◌≤◌, List, [], ◌∷◌, ◌++◌, length, get_or, refl, sym, ap, ◌∙◌, arith, ⊎_elim, subst}
 use Rattle.std.proofs.lemmas.List.{get_or_append_left, get_or_push, length_push}
 use Rattle.field_mod.specs.Modular.{Same, minus}
-use Rattle.field_mod.proofs.Modular.{same_by, same_refl, same_sym, same_trans, same-add, same-scale, same-mul}
+use Rattle.field_mod.proofs.Modular.{same_by, same_refl, same_sym, same_trans, same-add, same-scale, same-mul, neg_cancel}
 use Rattle.leray_conley.specs.Rows.{IsLeading}
 use Rattle.leray_conley.specs.Kernels.{IsInKernel}
 use Rattle.leray_conley.specs.Echelons.{along, cell, IsEchelon, HasEchelon, IsExtended}
-use Rattle.leray_conley.proofs.Totals.{exact, neg_cancel, total_none}
+use Rattle.leray_conley.proofs.Totals.{exact}
 use Rattle.leray_conley.proofs.Echelons.{same_mod, below_cases, along-scale, IsInserted, inserted_echelon, inserted_forth, inserted_back, inserted_last}
+use Rattle.field_mod.proofs.Sums.{total_none}
 
 -- a row, cleared along the rows in reduced form
 pub record IsCleared (p n : ℕ) (rows : List (List ℕ)) (pivots row cleared : List ℕ) : Type 0 where

@@ -3,14 +3,14 @@ use Rattle.std.proofs.Common.{◌≡◌, ℕ, zero, suc, ◌+◌, ◌-◌, ◌*�
 use Rattle.std.proofs.lemmas.Bool.{cases_lt}
 use Rattle.field_mod.specs.Sums.{total}
 use Rattle.field_mod.specs.Modular.{Same, IsField}
-use Rattle.field_mod.proofs.Sums.{total-same, total-scale}
-use Rattle.field_mod.proofs.Modular.{same_by, same_refl, same_sym, same_trans, same-add, same-scale, same-mul}
-use Rattle.leray_conley.proofs.Solutions.{Solution, solve}
-use Rattle.leray_conley.proofs.Totals.{exact, total_none, decide_zero, neg_cancel}
+use Rattle.field_mod.proofs.Sums.{total-same, total-scale, total_none}
+use Rattle.field_mod.proofs.Modular.{same_by, same_refl, same_sym, same_trans, same-add, same-scale, same-mul, decide_zero, neg_cancel}
+use Rattle.leray_conley.proofs.Totals.{exact}
 use Rattle.leray_conley.specs.Products.{product, identity, none, AreSame}
 use Rattle.leray_conley.specs.Kernels.{IsKilled}
 use Rattle.leray_conley.specs.Inverses.{IsInverse, InverseOrKernel, RightInversesAreLeft}
 use Rattle.leray_conley.proofs.Algebra.{by, chain, mul_left, mul_right, assoc, one_mul, mul_one, mul_none}
+use Rattle.field_mod.proofs.Solutions.{Solution, solve}
 
 -- a vector that the matrix sends to the i-th of the standard ones
 record Column (p d : ℕ) (a : ℕ → ℕ → ℕ) (i : ℕ) : Type 0 where

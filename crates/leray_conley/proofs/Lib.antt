@@ -15,7 +15,6 @@ pub mod Reduced
 pub mod Reductions
 pub mod RightBlocks
 pub mod Similar
-pub mod Solutions
 pub mod Splitters
 pub mod Totals
 pub mod Transfers

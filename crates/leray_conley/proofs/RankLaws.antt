@@ -4,7 +4,7 @@ use Rattle.std.proofs.lemmas.Bool.{cases_lt}
 use Rattle.field_mod.specs.Sums.{total}
 use Rattle.field_mod.specs.Modular.{Same, NonZero, IsField, minus}
 use Rattle.field_mod.proofs.Sums.{total-same, total_same}
-use Rattle.field_mod.proofs.Modular.{same_by, same_refl, same_sym, same_trans, same-add, same-scale, same-mul}
+use Rattle.field_mod.proofs.Modular.{same_by, same_refl, same_sym, same_trans, same-add, same-scale, same-mul, decide_zero, neg_cancel}
 use Rattle.leray_conley.specs.Products.{product, identity, transpose, none, AreSame}
 use Rattle.leray_conley.specs.Kernels.{IsInKernel, IsInjective}
 use Rattle.leray_conley.specs.Echelons.{along, IsEchelon}
@@ -13,8 +13,8 @@ use Rattle.leray_conley.proofs.Algebra.{plus, by, chain, add, itself, mul_left, 
 use Rattle.leray_conley.proofs.Echelons.{along-scale, below_cases, IsInserted, inserted_echelon, inserted_forth, inserted_back, inserted_last}
 use Rattle.leray_conley.proofs.Inverses.{right_inverses_are_left}
 use Rattle.leray_conley.proofs.Reduced.{column, picked, rank}
-use Rattle.leray_conley.proofs.Solutions.{solve}
-use Rattle.leray_conley.proofs.Totals.{exact, decide_zero, neg_cancel}
+use Rattle.leray_conley.proofs.Totals.{exact}
+use Rattle.field_mod.proofs.Solutions.{solve}
 
 -- ---- existence, by elimination
 

@@ -3,8 +3,8 @@ use Rattle.std.proofs.Common.{◌≡◌, ◌≢◌, ℕ, zero, suc, ◌+◌, ◌
 use Rattle.std.proofs.lemmas.Bool.{cases_lt}
 use Rattle.field_mod.specs.Sums.{total}
 use Rattle.field_mod.specs.Modular.{Same, IsField, minus}
-use Rattle.field_mod.proofs.Sums.{total-same, total-scale}
-use Rattle.field_mod.proofs.Modular.{same_by, same_refl, same_sym, same_trans, same-add, same-scale, same-mul}
+use Rattle.field_mod.proofs.Sums.{total-same, total-scale, total_none}
+use Rattle.field_mod.proofs.Modular.{same_by, same_refl, same_sym, same_trans, same-add, same-scale, same-mul, neg_cancel, one_nonzero}
 use Rattle.leray_conley.specs.Products.{product, identity, none, AreSame}
 use Rattle.leray_conley.specs.Kernels.{IsInKernel, IsKilled}
 use Rattle.leray_conley.specs.Inverses.{IsInverse}
@@ -15,7 +15,7 @@ use Rattle.leray_conley.proofs.Echelons.{identity_same, identity_other}
 use Rattle.leray_conley.proofs.Existence.{total-split}
 use Rattle.leray_conley.proofs.Inverses.{inverse_or_kernel, right_inverses_are_left}
 use Rattle.leray_conley.proofs.Reduced.{among, kernel_dies, kernel_free, picked, unit_row}
-use Rattle.leray_conley.proofs.Totals.{exact, neg_cancel, one_nonzero, same_from_negative, total-at, total_none}
+use Rattle.leray_conley.proofs.Totals.{exact, same_from_negative, total-at}
 
 -- two vectors of length d, one below the other
 abbrev stack : ℕ → (ℕ → ℕ) → (ℕ → ℕ) → ℕ → ℕ

@@ -4,13 +4,13 @@ use Rattle.std.proofs.lemmas.Bool.{cases_lt}
 use Rattle.field_mod.specs.Modular.{IsField}
 use Rattle.field_mod.proofs.Sums.{total-same}
 use Rattle.field_mod.proofs.Modular.{same_trans}
-use Rattle.leray_conley.proofs.Solutions.{solve}
 use Rattle.leray_conley.proofs.Totals.{exact}
 use Rattle.leray_conley.specs.Products.{product, identity, power, AreSame, none}
 use Rattle.leray_conley.specs.Splitting.{beside, Splitting, IsLeraySplitting, SplittingRanksAgree}
 use Rattle.leray_conley.proofs.Algebra.{plus, by, chain, add, itself, mul_left, mul_right, assoc, sum_mul, one_mul, mul_one, mul_none, none_mul}
 use Rattle.leray_conley.proofs.Inverses.{right_inverses_are_left}
 use Rattle.leray_conley.proofs.Existence.{total-split}
+use Rattle.field_mod.proofs.Solutions.{solve}
 
 module _ (p d : ℕ) (field : IsField p) (a : ℕ → ℕ → ℕ) (X : Splitting) (h : IsLeraySplitting p d a X) where
   abbrev r : ℕ

@@ -3,7 +3,7 @@ use Rattle.std.proofs.Common.{◌≡◌, ◌≢◌, ℕ, zero, suc, ◌+◌, ◌
 use Rattle.std.proofs.lemmas.Bool.{cases_lt}
 use Rattle.field_mod.specs.Sums.{total}
 use Rattle.field_mod.specs.Modular.{Same, IsField}
-use Rattle.field_mod.proofs.Sums.{total-same, total_same}
+use Rattle.field_mod.proofs.Sums.{total-same, total_same, total_none}
 use Rattle.field_mod.proofs.Modular.{same_refl, same_sym, same_trans, same-add, same-scale, same-mul}
 use Rattle.leray_conley.specs.Products.{product, identity, power, none, AreSame}
 use Rattle.leray_conley.specs.Kernels.{IsInKernel, IsKilled}
@@ -17,8 +17,8 @@ use Rattle.leray_conley.proofs.Existence.{total-split}
 use Rattle.leray_conley.proofs.Powers.{power-add, power_turned, power_dies, power_stays}
 use Rattle.leray_conley.proofs.Reduced.{among, at_pivots, column, independent, kernel_free, picks, spans, special_dies}
 use Rattle.leray_conley.proofs.Reductions.{narrowed}
-use Rattle.leray_conley.proofs.Solutions.{solve}
-use Rattle.leray_conley.proofs.Totals.{exact, total-at, total_none}
+use Rattle.leray_conley.proofs.Totals.{exact, total-at}
+use Rattle.field_mod.proofs.Solutions.{solve}
 
 -- m is a power of a of at least the size, and the rows b are its reduction; the f t are the columns without a pivot
 pub record IsSplitter (p d e r s : ℕ) (a m b : ℕ → ℕ → ℕ) (pivot f : ℕ → ℕ) : Type 0 where

@@ -4,44 +4,14 @@ use native.Mathlib.Nat.{zero-mod, zero-mul, eq-zero-or-pos, mod-eq_of_lt}
 use Rattle.std.proofs.lemmas.Nat.{mul-lt}
 use Rattle.field_mod.specs.Sums.{total}
 use Rattle.field_mod.specs.Modular.{Same, NonZero, IsField}
-use Rattle.field_mod.proofs.Sums.{total-same, total-zero, total_same}
-use Rattle.field_mod.proofs.Modular.{same_by, same_refl, same_sym, same_trans, same-add, same-scale, same-mul}
+use Rattle.field_mod.proofs.Sums.{total-same, total-single}
+use Rattle.field_mod.proofs.Modular.{same_by, same_refl, same_sym, same_trans, same-add, neg_cancel}
 
 pub exact : {p a b : ℕ} → a ≡ b → Same p a b
 exact {p} e = same_by p 0 0 _ _ (ap (λ v. v + p * 0) e)
 
-pub decide_zero : (p a : ℕ) → Same p a 0 ⊎ NonZero p a
-decide_zero p a = ⊎_elim (λ e. inl (record { same = e ∙ sym (zero-mod p) })) (λ l. inr (λ s. let t = s.same in let z = zero-mod p in omega arith)) (eq-zero-or-pos (a % p))
-
-pub one_nonzero : (p : ℕ) → 2 ≤ p → NonZero p 1
-one_nonzero p h s = let t : 1 % p ≡ 0 = s.same ∙ zero-mod p in let u : 1 % p ≡ 1 = mod-eq_of_lt (omega arith) in absurd (omega arith)
-
-pub nonzero-mul : (p a b : ℕ) → IsField p → NonZero p a → NonZero p b → NonZero p (a * b)
-nonzero-mul p a b inv ha hb s =
-    let w = inv.inverse a ha in
-    hb (same_trans (same_sym (same_by p 0 0 _ _ (omega arith))) (same_trans (same_sym (same-mul w.1 (same_refl p b))) (same_trans (same_by p 0 0 (w.0 * a * b) (w.0 * (a * b)) (omega arith)) (same_trans (same-scale w.0 s) (same_by p 0 0 _ _ (omega arith))))))
-
-pub neg_cancel : (p x : ℕ) → 1 ≤ p → (p - 1) * x + x ≡ p * x
-neg_cancel zero x h = absurd (omega arith)
-neg_cancel (suc p) x h = let e : suc p - 1 ≡ p = omega arith in rw e (omega arith)
-
-pub total_none : (p n : ℕ) (f : ℕ → ℕ) → ((i : ℕ) → i < n → Same p (f i) 0) → Same p (total n f) 0
-total_none p n f h = same_trans (total_same p n f (λ i. 0) h) (exact (total-zero n))
-
-eqb-suc : (a b : ℕ) → eqb (suc a) (suc b) ≡ eqb a b
-eqb-suc a b = elim (eqb a b) as (λ v. eqb a b ≡ v → eqb (suc a) (suc b) ≡ v) [ true ↦ λ e. let q = eqb-true a b e in eq-eqb (suc a) (suc b) (omega arith) | false ↦ λ e. ne_eqb (suc a) (suc b) (λ q. let r : a ≡ b = omega arith in true≢false (sym (eq-eqb a b r) ∙ e)) ] refl
-
 pub eqb_sym : (a b : ℕ) → eqb a b ≡ eqb b a
 eqb_sym a b = elim (eqb b a) as (λ v. eqb b a ≡ v → eqb a b ≡ v) [ true ↦ λ e. eq-eqb a b (sym (eqb-true b a e)) | false ↦ λ e. ne_eqb a b (λ q. let r = eq-eqb b a (sym q) in absurd (true≢false (sym r ∙ e))) ] refl
-
--- the sum over one place
-pub total-single : (n k a : ℕ) (f : ℕ → ℕ) → k < n → total n (λ h. cond (eqb k h) a 0 * f h) ≡ a * f k
-total-single zero k a f l = absurd (omega arith)
-total-single (suc n) zero a f l = omega (arith, total-same n (λ h. cond (eqb 0 (suc h)) a 0 * f (suc h)) (λ h. 0) (λ h m. rw (ne_eqb 0 (suc h) (omega arith)) (zero-mul (f (suc h)))), total-zero n)
-total-single (suc n) (suc k) a f l =
-    let z : cond (eqb (suc k) 0) a 0 * f 0 ≡ 0 = rw (ne_eqb (suc k) 0 (omega arith)) (zero-mul (f 0)) in
-    let e = total-same n (λ h. cond (eqb (suc k) (suc h)) a 0 * f (suc h)) (λ h. cond (eqb k h) a 0 * f (suc h)) (λ h m. ap (λ b. cond b a 0 * f (suc h)) (eqb-suc k h)) in
-    omega (arith, z, e, total-single n k a (λ h. f (suc h)) (omega arith))
 
 pub total-at : (n j : ℕ) (c : ℕ → ℕ) → j < n → total n (λ h. cond (eqb h j) 1 0 * c h) ≡ c j
 total-at n j c l = total-same n (λ h. cond (eqb h j) 1 0 * c h) (λ h. cond (eqb j h) 1 0 * c h) (λ h m. ap (λ v. cond v 1 0 * c h) (eqb_sym h j)) ∙ total-single n j 1 c l ∙ omega arith

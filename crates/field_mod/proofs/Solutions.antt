@@ -1,10 +1,9 @@
 -- More unknowns than equations modulo p: there is a solution that is not zero.
-use Rattle.std.proofs.Common.{◌≡◌, ℕ, zero, suc, ◌+◌, ◌-◌, ◌*◌, ◌%◌, ◌<◌, ◌≤◌, ◌⊎◌, inl, inr, refl, sym, ◌∙◌, arith, ⊎_elim}
-use native.Mathlib.Nat.{zero-mod, eq-zero-or-pos, mod-eq_of_lt}
+use Rattle.std.proofs.Common.{◌≡◌, ℕ, zero, suc, ◌+◌, ◌-◌, ◌*◌, ◌<◌, ◌≤◌, ◌⊎◌, inl, inr, refl, ◌∙◌, arith}
 use Rattle.field_mod.specs.Sums.{total}
 use Rattle.field_mod.specs.Modular.{Same, NonZero, IsField}
-use Rattle.field_mod.proofs.Sums.{total-same, total-zero, total-add, total-scale, total_same}
-use Rattle.field_mod.proofs.Modular.{same_by, same_refl, same_sym, same_trans, same-scale, same-mul}
+use Rattle.field_mod.proofs.Sums.{total-same, total-add, total-scale, all_zero}
+use Rattle.field_mod.proofs.Modular.{same_by, same_trans, neg_cancel, decide_zero, one_nonzero, nonzero-mul}
 
 -- the function that is s at k, and y elsewhere in order
 abbrev put : ℕ → ℕ → (ℕ → ℕ) → ℕ → ℕ
@@ -41,9 +40,6 @@ pub record Solution (p n m : ℕ) (a : ℕ → ℕ → ℕ) : Type 0 where
   pub nonzero : NonZero p (at place)
   pub solves : (i : ℕ) → i < m → Same p (total n (λ j. at j * a i j)) 0
 
-pub decide_zero : (p a : ℕ) → Same p a 0 ⊎ NonZero p a
-decide_zero p a = ⊎_elim (λ e. inl (record { same = e ∙ sym (zero-mod p) })) (λ l. inr (λ s. let t = s.same in let z = zero-mod p in omega arith)) (eq-zero-or-pos (a % p))
-
 pivot : (p n : ℕ) (a : ℕ → ℕ) → ((j : ℕ) → j < n → Same p (a j) 0) ⊎ ((j : ℕ) × (j < n) × NonZero p (a j))
 pivot p zero a = inl (λ j l. absurd (omega arith))
 pivot p (suc n) a =
@@ -55,22 +51,7 @@ pivot p (suc n) a =
       ]
     ]
 
-pub one_nonzero : (p : ℕ) → 2 ≤ p → NonZero p 1
-one_nonzero p h s = let t : 1 % p ≡ 0 = s.same ∙ zero-mod p in let u : 1 % p ≡ 1 = mod-eq_of_lt (omega arith) in absurd (omega arith)
-
-pub nonzero-mul : (p a b : ℕ) → IsField p → NonZero p a → NonZero p b → NonZero p (a * b)
-nonzero-mul p a b inv ha hb s =
-    let w = inv.inverse a ha in
-    hb (same_trans (same_sym (same_by p 0 0 _ _ (omega arith))) (same_trans (same_sym (same-mul w.1 (same_refl p b))) (same_trans (same_by p 0 0 (w.0 * a * b) (w.0 * (a * b)) (omega arith)) (same_trans (same-scale w.0 s) (same_by p 0 0 _ _ (omega arith))))))
-
-pub neg_cancel : (p x : ℕ) → 1 ≤ p → (p - 1) * x + x ≡ p * x
-neg_cancel zero x h = absurd (omega arith)
-neg_cancel (suc p) x h = let e : suc p - 1 ≡ p = omega arith in rw e (omega arith)
-
-pub all_zero : (p n : ℕ) (x a : ℕ → ℕ) → ((j : ℕ) → j < n → Same p (a j) 0) → Same p (total n (λ j. x j * a j)) 0
-all_zero p n x a h = same_trans (total_same p n (λ j. x j * a j) (λ j. 0) (λ j l. same_trans (same-scale (x j) (h j l)) (same_by p 0 0 _ _ (omega arith)))) (same_by p 0 0 _ _ (omega (arith, total-zero n)))
-
--- one step of elimination: the row 0 has a pivot at k
+-- one step of elimination: the first row has a pivot at k
 eliminated : (p k : ℕ) (a : ℕ → ℕ → ℕ) → ℕ → ℕ → ℕ
 eliminated p k a i j = a 0 k * a (suc i) (skip k j) + (p - 1) * (a 0 (skip k j) * a (suc i) k)
 
