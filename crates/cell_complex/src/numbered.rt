@@ -1,13 +1,11 @@
 //! Numbered cells.
-ghost use Rattle.std.specs.Prelude.{◌≡◌, ◌<◌, ◌^◌, ◌↔◌, [], length, IsTrue, slice_get, IsSome, IfSome, IfOk, Some};
+ghost use Rattle.std.specs.Prelude.{◌≡◌, ◌<◌, ◌↔◌, [], length, IsTrue, slice_get, IsSome, IfSome, IfOk, Some};
 ghost use Rattle.std.specs.List.{Contains};
 ghost use Rattle.elem_cubes.specs.Laws.{cell_at};
 ghost use Rattle.cell_complex.specs.Sorted.{IsSortedCells};
-ghost use Rattle.cell_complex.specs.Gathering.{has_cell, AreAllAlike};
-ghost use Rattle.cell_complex.specs.Numbering.{IsListing, number_of};
+ghost use Rattle.cell_complex.specs.Numbering.{number_of};
 
 use elem_cubes::Cell;
-use indexmap::IndexSet;
 use std::alloc::{AllocError, Global};
 use std::marker::Model;
 
@@ -15,7 +13,7 @@ use std::marker::Model;
 /// within the range of the files. The number of a cell is its place, counted from 0.
 #[derive(Drop)]
 pub struct Numbered {
-    cells: IndexSet<Cell>,
+    cells: Vec<Cell>,
 }
 
 impl Model for Numbered {
@@ -25,9 +23,9 @@ impl Model for Numbered {
 
     ghost Value = { List (List Factor) };
 
-    ghost view = { λ s. s.cells.keys };
+    ghost view = { λ s. s.cells.items };
 
-    ghost invariant = { λ s. IsSortedCells s.cells.keys };
+    ghost invariant = { λ s. IsSortedCells s.cells.items };
 }
 
 impl Numbered {
@@ -36,22 +34,16 @@ impl Numbered {
         requires { IsSortedCells cells.now }
         ensures { IfOk result (λ numbered. numbered ≡ cells.now) }
     {
-        let mut numbered = IndexSet::with_capacity(alloc, cells.len())?;
-        for cell in cells {
-            numbered.insert(*cell)?;
-        }
-        Ok(Numbered { cells: numbered })
+        let cells = Vec::from_slice(alloc, cells)?;
+        Ok(Numbered { cells })
     }
 
-    // Numbers the cells of a set in their order.
-    pub(crate) fn of_set(cells: IndexSet<Cell>) -> Result<Numbered, AllocError>
-        requires few { length cells.keys < 2 ^ 32 }
-        requires alike { AreAllAlike cells.keys }
-        ensures { IfOk result (IsListing (has_cell cells.keys)) }
+    /// Numbers the cells of a list that is sorted already. It takes no memory.
+    pub fn of_list(cells: Vec<Cell>) -> Numbered
+        requires { IsSortedCells cells.items }
+        ensures { result ≡ cells.items }
     {
-        let mut numbered = cells;
-        numbered.sort()?;
-        Ok(Numbered { cells: numbered })
+        Numbered { cells }
     }
 
     /// How many cells there are.
@@ -82,7 +74,7 @@ impl Numbered {
         ensures value { result.now ≡ self.now }
         ensures sorted { IsSortedCells self.now }
     {
-        self.cells.as_slice()
+        &self.cells
     }
 
     /// The number of a cell, or `None` where it is not there.
@@ -92,9 +84,9 @@ impl Numbered {
         ensures number { IfSome result (λ number. number ≡ number_of self.now cell.now) }
         ensures sorted { IsSortedCells self.now }
     {
-        let Some(index) = self.cells.get_index_of(cell) else {
-            return None;
-        };
-        Some(index as u32)
+        match self.cells().binary_search(cell) {
+            Ok(place) => Some(place as u32),
+            Err(_) => None,
+        }
     }
 }
