@@ -6,6 +6,7 @@ ghost use Rattle.cell_complex.specs.Sorted.{IsSortedCells};
 ghost use Rattle.cell_complex.specs.Numbering.{number_of};
 
 use elem_cubes::Cell;
+use indexmap::IndexSet;
 use std::alloc::{AllocError, Global};
 use std::marker::Model;
 
@@ -13,7 +14,7 @@ use std::marker::Model;
 /// within the range of the files. The number of a cell is its place, counted from 0.
 #[derive(Drop)]
 pub struct Numbered {
-    cells: Vec<Cell>,
+    cells: IndexSet<Cell>,
 }
 
 impl Model for Numbered {
@@ -23,9 +24,9 @@ impl Model for Numbered {
 
     ghost Value = { List (List Factor) };
 
-    ghost view = { λ s. s.cells.items };
+    ghost view = { λ s. s.cells.keys };
 
-    ghost invariant = { λ s. IsSortedCells s.cells.items };
+    ghost invariant = { λ s. IsSortedCells s.cells.keys };
 }
 
 impl Numbered {
@@ -34,16 +35,11 @@ impl Numbered {
         requires { IsSortedCells cells.now }
         ensures { IfOk result (λ numbered. numbered ≡ cells.now) }
     {
-        let cells = Vec::from_slice(alloc, cells)?;
-        Ok(Numbered { cells })
-    }
-
-    /// Numbers the cells of a list that is sorted already. It takes no memory.
-    pub fn of_list(cells: Vec<Cell>) -> Numbered
-        requires { IsSortedCells cells.items }
-        ensures { result ≡ cells.items }
-    {
-        Numbered { cells }
+        let mut numbered = IndexSet::with_capacity(alloc, cells.len())?;
+        for cell in cells {
+            numbered.insert(*cell)?;
+        }
+        Ok(Numbered { cells: numbered })
     }
 
     /// How many cells there are.
@@ -74,7 +70,7 @@ impl Numbered {
         ensures value { result.now ≡ self.now }
         ensures sorted { IsSortedCells self.now }
     {
-        &self.cells
+        self.cells.as_slice()
     }
 
     /// The number of a cell, or `None` where it is not there.
@@ -84,9 +80,9 @@ impl Numbered {
         ensures number { IfSome result (λ number. number ≡ number_of self.now cell.now) }
         ensures sorted { IsSortedCells self.now }
     {
-        match self.cells().binary_search(cell) {
-            Ok(place) => Some(place as u32),
-            Err(_) => None,
-        }
+        let Some(index) = self.cells.get_index_of(cell) else {
+            return None;
+        };
+        Some(index as u32)
     }
 }

@@ -47,7 +47,8 @@ pub(crate) fn relative_within(
     if limit - subset.cells().len() < cells.len() {
         return Err(CellsFault::TooManyCells);
     }
-    Ok(Numbered::of_list(cells))
+    let numbered = Numbered::of_sorted(alloc, &cells)?;
+    Ok(numbered)
 }
 
 // The faces of the members of a set, or `TooManyCells` where they alone are more than so many.
