@@ -7,5 +7,5 @@ pub mod ByCell
 pub mod Facets
 pub mod Sorting
 pub mod Collecting
-pub mod Gathered
+pub mod Apart
 pub mod Counting

@@ -14,9 +14,6 @@ use Rattle.elem_cubes.specs.Cells.{Factor, dimension_of, same_cell}
 use Rattle.elem_cubes.specs.Boundary.{boundary_at, boundary_coefficient}
 use Rattle.elem_cubes.specs.Laws.{cell_at}
 use Rattle.chains.specs.Terms.{coefficient, IsNormal}
-use Rattle.chains.specs.Refusal.{IsRefusal}
-use Rattle.chains.specs.declared.complex.ComplexFault.{ComplexFault}
-use Rattle.chains.specs.declared.complex.ComplexFault.TheVariants.{BadDegree, NotZero, NoMemory}
 use Rattle.chains.proofs.TermLists.{coefficient-lt}
 use Rattle.chains.specs.ChainComplex.{ChainComplex, IsComplex, IsBadDegree, incidence, boundary}
 use Rattle.cell_complex.specs.RelativeComplex.{is_relative, restriction_to}
@@ -134,13 +131,7 @@ from_parts p cells K degrees bs ed eb dimensions boundaries count few = record {
   incidences = λ h g l. same_trans (exact p (ap (λ cs. coefficient (get_or cs h []) g) eb)) ((boundaries.each h (omega (arith, count, l))).coefficients g);
 }
 
--- such parts are not refused
-pub not_refused : (p : ℕ) (degrees : List ℕ) (bs : List (List (ℕ × ℕ))) (fault : ComplexFault) → IsComplex p (record { degrees = degrees; boundaries = bs }) → IsRefusal p degrees bs fault → fault ≡ NoMemory
-not_refused p degrees bs (BadDegree h g) complex refusal = absurd (complex.lowers h g refusal.here)
-not_refused p degrees bs (NotZero h g value) complex refusal = absurd (refusal.1.here.nonzero (complex.squares_to_zero h g refusal.1.here.generator))
-not_refused p degrees bs NoMemory complex refusal = refl
-
-pub parts_not_refused : (p : ℕ) (cells : List (List Factor)) (degrees : List ℕ) (bs : List (List (ℕ × ℕ))) (fault : ComplexFault) → 1 ≤ p → IsOfPair cells → degrees ≡ map dimension_of cells → AreBoundaries p cells bs → length bs ≡ length cells → length cells < 2 ^ 32 → IsRefusal p degrees bs fault → fault ≡ NoMemory
-parts_not_refused p cells degrees bs fault h pair dimensions boundaries count few refusal =
+pub parts_are_complex : (p : ℕ) (cells : List (List Factor)) (degrees : List ℕ) (bs : List (List (ℕ × ℕ))) → 1 ≤ p → IsOfPair cells → degrees ≡ map dimension_of cells → AreBoundaries p cells bs → length bs ≡ length cells → length cells < 2 ^ 32 → IsComplex p (record { degrees = degrees; boundaries = bs })
+parts_are_complex p cells degrees bs h pair dimensions boundaries count few =
     let K : ChainComplex = record { degrees = degrees; boundaries = bs } in
-    not_refused p degrees bs fault (numbered_cells_are_complex p pair.x pair.a cells K h (record { listing = pair.listing; complex = from_parts p cells K degrees bs refl refl dimensions boundaries count few })) refusal
+    numbered_cells_are_complex p pair.x pair.a cells K h (record { listing = pair.listing; complex = from_parts p cells K degrees bs refl refl dimensions boundaries count few })

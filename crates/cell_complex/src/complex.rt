@@ -6,7 +6,7 @@ ghost use Rattle.cell_complex.specs.Sorted.{IsSortedCells};
 ghost use Rattle.cell_complex.specs.Numbering.{IsOfPair, IsComplexOf};
 
 use crate::numbered::Numbered;
-use chains::{Chain, Complex, ComplexFault};
+use chains::{Chain, Complex};
 use elem_cubes::Cell;
 use field_mod::Field;
 use std::alloc::{AllocError, Global};
@@ -23,20 +23,7 @@ pub fn complex_of<const P: u16>(
 {
     let degrees = degrees_of(alloc, cells)?;
     let boundaries = boundaries_of(alloc, field, cells)?;
-    match Complex::new(alloc, field, degrees, boundaries) {
-        Ok(complex) => Ok(complex),
-        Err(fault) => Err(want_of_memory(fault)),
-    }
-}
-
-fn want_of_memory(fault: ComplexFault) -> AllocError
-    requires { fault ≡ ComplexFault.NoMemory }
-{
-    match fault {
-        ComplexFault::NoMemory => AllocError,
-        ComplexFault::BadDegree { .. } => unreachable!(),
-        ComplexFault::NotZero { .. } => unreachable!(),
-    }
+    Ok(Complex::of(degrees, boundaries))
 }
 
 fn degrees_of(alloc: Global, cells: &Numbered) -> Result<Vec<u8>, AllocError>

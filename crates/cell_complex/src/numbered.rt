@@ -1,10 +1,9 @@
 //! Numbered cells.
-ghost use Rattle.std.specs.Prelude.{◌≡◌, ◌<◌, ◌^◌, ◌↔◌, [], length, IsTrue, slice_get, IsSome, IfSome, IfOk, Some};
+ghost use Rattle.std.specs.Prelude.{◌≡◌, ◌<◌, ◌↔◌, [], length, IsTrue, slice_get, IsSome, IfSome, IfOk, Some};
 ghost use Rattle.std.specs.List.{Contains};
 ghost use Rattle.elem_cubes.specs.Laws.{cell_at};
 ghost use Rattle.cell_complex.specs.Sorted.{IsSortedCells};
-ghost use Rattle.cell_complex.specs.Gathering.{has_cell, AreAllAlike};
-ghost use Rattle.cell_complex.specs.Numbering.{IsListing, number_of};
+ghost use Rattle.cell_complex.specs.Numbering.{number_of};
 
 use elem_cubes::Cell;
 use indexmap::IndexSet;
@@ -40,17 +39,6 @@ impl Numbered {
         for cell in cells {
             numbered.insert(*cell)?;
         }
-        Ok(Numbered { cells: numbered })
-    }
-
-    // Numbers the cells of a set in their order.
-    pub(crate) fn of_set(cells: IndexSet<Cell>) -> Result<Numbered, AllocError>
-        requires few { length cells.keys < 2 ^ 32 }
-        requires alike { AreAllAlike cells.keys }
-        ensures { IfOk result (IsListing (has_cell cells.keys)) }
-    {
-        let mut numbered = cells;
-        numbered.sort()?;
         Ok(Numbered { cells: numbered })
     }
 

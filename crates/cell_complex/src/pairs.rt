@@ -1,16 +1,19 @@
 //! The relative cells of a pair of sets.
-ghost use Rattle.std.specs.Prelude.{◌≡◌, ◌<◌, ◌≤◌, ◌^◌, ◌++◌, [], length, IfOk, OnOk, Err};
-ghost use Rattle.elem_cubes.specs.Faces.{closure_of};
+ghost use Rattle.std.specs.Prelude.{◌≡◌, ◌<◌, ◌≤◌, ◌^◌, ◌++◌, length, IfOk, OnOk, Err};
+ghost use Rattle.std.specs.List.Sorted.{IsStrictlySortedBy};
+ghost use Rattle.elem_cubes.specs.Order.{cell_cmp};
+ghost use Rattle.grid_files.specs.Closures.{cells_of};
 ghost use Rattle.cell_complex.specs.RelativeComplex.{is_relative};
 ghost use Rattle.cell_complex.specs.Numbering.{IsListing, IsOfPair};
-ghost use Rattle.cell_complex.specs.Gathering.{cell_count, one_without, listed_without, faces_without, Gathers, GathersTooMany};
+ghost use Rattle.cell_complex.specs.Gathering.{cell_count};
+ghost use Rattle.cell_complex.specs.Sorted.{without};
 
 use crate::fault::CellsFault;
 use crate::numbered::Numbered;
 use elem_cubes::Cell;
-use grid_files::CubeSet;
-use indexmap::IndexSet;
-use std::alloc::Global;
+use grid_files::{CubeSet, SetFault};
+use std::alloc::{AllocError, Global};
+use std::cmp::Ordering;
 
 /// The most cells that the two sets of a pair have together.
 pub const CELLS: usize = 4_194_304;
@@ -38,64 +41,53 @@ pub(crate) fn relative_within(
     ensures few { OnOk result (cell_count (x.now.cells ++ a.now.cells) ≤ limit) }
     ensures many { result ≡ Err CellsFault.TooManyCells → limit < cell_count (x.now.cells ++ a.now.cells) }
 {
-    let nothing = IndexSet::new(alloc);
-    let subset = cells_without(alloc, a.cells(), &nothing, limit)?;
-    let cells = cells_without(alloc, x.cells(), &subset, limit - subset.len())?;
-    let numbered = Numbered::of_set(cells)?;
+    let subset = faces_within(alloc, a, limit)?;
+    let faces = faces_within(alloc, x, limit)?;
+    let cells = cells_without(alloc, faces.cells(), subset.cells())?;
+    if limit - subset.cells().len() < cells.len() {
+        return Err(CellsFault::TooManyCells);
+    }
+    let numbered = Numbered::of_sorted(alloc, &cells)?;
     Ok(numbered)
 }
 
-// The faces of the members that another set has not.
-fn cells_without(
-    alloc: Global,
-    members: &[Cell],
-    without: &IndexSet<Cell>,
-    limit: usize,
-) -> Result<IndexSet<Cell>, CellsFault>
-    ensures cells { IfOk result (λ cells. Gathers (faces_without members.now without.now.keys) limit [] cells.keys) }
-    ensures many { result ≡ Err CellsFault.TooManyCells → GathersTooMany (faces_without members.now without.now.keys) limit [] }
+// The faces of the members of a set, or `TooManyCells` where they alone are more than so many.
+fn faces_within(alloc: Global, set: &CubeSet, limit: usize) -> Result<CubeSet, CellsFault>
+    requires { limit < 2 ^ 32 }
+    ensures cells { IfOk result (λ faces. faces.cells ≡ cells_of set.now.cells) }
+    ensures few { OnOk result (length (cells_of set.now.cells) ≤ limit) }
+    ensures many { result ≡ Err CellsFault.TooManyCells → limit < length (cells_of set.now.cells) }
 {
-    let mut cells = IndexSet::new(alloc);
-    for member in members {
-        add_faces(&mut cells, member, without, limit)?;
+    match set.closure_within(alloc, limit as u32) {
+        Ok(faces) => Ok(faces),
+        Err(SetFault::TooMany) => Err(CellsFault::TooManyCells),
+        Err(_) => Err(CellsFault::NoMemory),
     }
-    Ok(cells)
 }
 
-// Adds the faces of a cell that another set has not.
-fn add_faces(
-    cells: &mut IndexSet<Cell>,
-    member: &Cell,
-    without: &IndexSet<Cell>,
-    limit: usize,
-) -> Result<(), CellsFault>
-    requires { length cells.old.keys ≤ limit }
-    ensures faces { OnOk result (Gathers (listed_without (closure_of member.now) without.now.keys) limit cells.old.keys cells.new.keys) }
-    ensures many { result ≡ Err CellsFault.TooManyCells → GathersTooMany (listed_without (closure_of member.now) without.now.keys) limit cells.old.keys }
+// The cells of a sorted list that another sorted list has not, in one pass over both.
+fn cells_without(alloc: Global, cells: &[Cell], others: &[Cell]) -> Result<Vec<Cell>, AllocError>
+    requires cells { IsStrictlySortedBy cell_cmp cells.now }
+    requires others { IsStrictlySortedBy cell_cmp others.now }
+    ensures { IfOk result (λ kept. kept.items ≡ without cells.now others.now) }
 {
-    for face in member.closure() {
-        add_cell(cells, face, without, limit)?;
+    let mut kept = Vec::with_capacity(alloc, cells.len())?;
+    let mut i = 0;
+    let mut j = 0;
+    'merge: while i < cells.len() && j < others.len() {
+        let cell = cells[i];
+        match cell.cmp(&others[j]) {
+            Ordering::Less => {
+                kept.push(cell)?;
+                i += 1;
+            }
+            Ordering::Equal => {
+                i += 1;
+                j += 1;
+            }
+            Ordering::Greater => j += 1,
+        }
     }
-    Ok(())
-}
-
-// Adds a cell that another set has not.
-fn add_cell(
-    cells: &mut IndexSet<Cell>,
-    cell: Cell,
-    without: &IndexSet<Cell>,
-    limit: usize,
-) -> Result<(), CellsFault>
-    requires { length cells.old.keys ≤ limit }
-    ensures cell { OnOk result (Gathers (one_without cell without.now.keys) limit cells.old.keys cells.new.keys) }
-    ensures many { result ≡ Err CellsFault.TooManyCells → GathersTooMany (one_without cell without.now.keys) limit cells.old.keys }
-{
-    if without.contains(&cell) {
-        return Ok(());
-    }
-    cells.insert(cell)?;
-    if cells.len() > limit {
-        return Err(CellsFault::TooManyCells);
-    }
-    Ok(())
+    kept.extend_from_slice(&cells[i..])?;
+    Ok(kept)
 }

@@ -75,10 +75,19 @@ impl<const P: u16> Complex<P> {
             }
             Err(_) => return Err(ComplexFault::NoMemory),
         }
-        Ok(Complex {
+        Ok(Complex::of(degrees, boundaries))
+    }
+
+    /// The complex with these degrees and boundaries, which are known to be a complex. It takes no memory.
+    pub fn of(degrees: Vec<u8>, boundaries: Vec<Chain<P>>) -> Self
+        requires { IsComplex P (record { degrees = degrees.items; boundaries = boundaries.items }) }
+        ensures degrees { result.degrees ≡ degrees.items }
+        ensures boundaries { result.boundaries ≡ boundaries.entry.items }
+    {
+        Complex {
             degrees,
             boundaries,
-        })
+        }
     }
 
     /// How many generators there are.

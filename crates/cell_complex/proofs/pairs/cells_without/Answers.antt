@@ -1,16 +1,39 @@
-use Rattle.std.proofs.Common.{◌≡◌, Err}
-use Rattle.std.proofs.lemmas.Result.{err_from_is_err_and}
-use Rattle.cell_complex.specs.declared.fault.CellsFault.TheVariants.{TooManyCells}
-use Rattle.cell_complex.proofs.Gathered.{one_more, too_many_faces}
+use Rattle.std.proofs.Common.{◌∙◌, sym, ap, ◌-◌, ◌≤◌, ◌⊎◌, ◌++◌, length, drop, inl, inr, arith, length-drop}
+use Rattle.std.proofs.lemmas.List.{take_all}
+use Rattle.elem_cubes.specs.Order.{cell_cmp}
+use Rattle.elem_cubes.specs.OrderLemmas.{cell_cmp_total}
+use Rattle.cell_complex.proofs.Apart.{apart_less, apart_equal, apart_greater, apart_end}
 use Rattle.cell_complex.proofs.pairs.cells_without.Goals as goal
+use Rattle.cell_complex.proofs.pairs.cells_without.Goals.{then-merge-test+else-j-others, else-merge-test}
 
-pub returns-in_err-add_faces-clause-many : goal.returns-in_err-add_faces-clause-many
-returns-in_err-add_faces-clause-many c e =
-    let p = err_from_is_err_and c.from_residual.result c.from_residual.ensures.1 in
-    let w = c.in_err-add_faces.was in
-    let x : c.add_faces.result ≡ Err TooManyCells = cc in
-    too_many_faces c.args.members.now c.args.without.now.keys c.loop-member.cells.keys c.loop-member.member-index c.member-item.result c.args.limit c.loop-member.invariant c.loop-member-test.true c.member-item.is (c.add_faces.ensures.many x)
+pub merge-preserved-in-Less : goal.merge-preserved-in-Less
+merge-preserved-in-Less c = record {
+  left = rw c.in_ok-push-in-Less.ensures.items
+      (apart_less cell_cmp cell_cmp_total c.args.cells.now c.args.others.now c.merge.kept.items c.merge.i c.merge.j _ _ c.merge-test.true c.if-j-others.true
+      c.index-cells-i.is c.index-others-j.is (sym c.in-Less.ensures) c.requires.others ∙ c.merge.invariant.left);
+  cells = omega arith;
+  others = omega arith;
+}
 
-pub loop-member-preserved : goal.loop-member-preserved
-loop-member-preserved c =
-    one_more c.args.members.now c.args.without.now.keys c.loop-member.cells.keys c.add_faces.new.cells.keys c.loop-member.member-index c.member-item.result c.args.limit c.loop-member.invariant c.loop-member-test.true c.member-item.is c.in_ok-add_faces.ensures.faces
+pub merge-preserved-in-Equal : goal.merge-preserved-in-Equal
+merge-preserved-in-Equal c = record {
+  left = apart_equal cell_cmp cell_cmp_total c.args.cells.now c.args.others.now c.merge.kept.items c.merge.i c.merge.j _ _ c.merge-test.true c.if-j-others.true
+      c.index-cells-i.is c.index-others-j.is (sym c.in-Equal.ensures) c.requires.cells ∙ c.merge.invariant.left;
+  cells = omega arith;
+  others = omega arith;
+}
+
+pub merge-preserved : goal.merge-preserved
+merge-preserved c = record {
+  left = apart_greater cell_cmp cell_cmp_total c.args.cells.now c.args.others.now c.merge.kept.items c.merge.i c.merge.j _ _ c.merge-test.true c.if-j-others.true
+      c.index-cells-i.is c.index-others-j.is (sym c.in-Greater.ensures) c.requires.cells ∙ c.merge.invariant.left;
+  cells = omega arith;
+  others = omega arith;
+}
+
+pub returns : goal.returns
+returns c =
+    let ends : (length c.args.cells.now ≤ c.merge.i) ⊎ (length c.args.others.now ≤ c.merge.j) =
+    elim c.merge-test.branch [ then-merge-test+else-j-others w ↦ inr w.if-j-others.false | else-merge-test w ↦ inl w.merge-test.false ] in
+    let rest = take_all (length c.args.cells.now - c.merge.i) (drop c.merge.i c.args.cells.now) (omega (arith, length-drop c.merge.i c.args.cells.now)) in
+    c.in_ok-extend_from_slice.ensures.items ∙ ap (λ l. c.merge.kept.items ++ l) rest ∙ apart_end cell_cmp cell_cmp_total c.args.cells.now c.args.others.now c.merge.kept.items _ c.merge.i c.merge.j ends c.merge.invariant.left

@@ -1,53 +1,51 @@
-use Rattle.std.proofs.Common.{◌≡◌, ◌-◌, subst, Err, arith, List, []}
+use Rattle.std.proofs.Common.{◌≡◌, ◌∙◌, refl, sym, ap, subst, arith, List, length, ◌≤◌, Err}
 use Rattle.std.proofs.lemmas.Result.{err_from_is_err_and}
 use Rattle.elem_cubes.specs.Cells.{Factor}
+use Rattle.grid_files.specs.Closures.{cells_of}
 use Rattle.cell_complex.specs.declared.fault.CellsFault.TheVariants.{TooManyCells}
+use Rattle.cell_complex.specs.Sorted.{IsSortedCells, without}
 use Rattle.cell_complex.specs.RelativeComplex.{is_relative}
-use Rattle.cell_complex.specs.Gathering.{has_cell, faces_without, Gathers, GathersTooMany}
-use Rattle.cell_complex.proofs.Counting.{relative_cells, relative_alike, pair_count, subset_too_many, pair_too_many, listing_of}
+use Rattle.cell_complex.proofs.Deciding.{has_cell}
+use Rattle.cell_complex.proofs.Counting.{relative_cells, faces_count, subset_count, pair_count, sorted_without, listing_of}
 use Rattle.cell_complex.proofs.pairs.relative_within.Goals as goal
 
 pub returns-in_err-subset-clause-many : goal.returns-in_err-subset-clause-many
 returns-in_err-subset-clause-many c e =
     let p = err_from_is_err_and c.from_residual.result c.from_residual.ensures.1 in
     let w = c.in_err-subset.was in
-    let x : c.cells_without.result ≡ Err TooManyCells = cc in
-    subset_too_many c.args.x.now.cells c.args.a.now.cells c.new-nothing.result.keys c.args.limit
-    (subst (λ (a : List (List Factor)). GathersTooMany (faces_without a c.new-nothing.result.keys) c.args.limit []) c.cells.ensures.cells (c.cells_without.ensures.many x))
+    let h : c.faces_within.result ≡ Err TooManyCells = cc in
+    omega (arith, c.faces_within.ensures.many h, subset_count c.args.x.now.cells c.args.a.now.cells (cells_of c.args.x.now.cells) (cells_of c.args.a.now.cells) refl refl)
 
-pub returns-in_err-cells-clause-many : goal.returns-in_err-cells-clause-many
-returns-in_err-cells-clause-many c e =
-    let p = err_from_is_err_and c.from_residual-in_err-cells.result c.from_residual-in_err-cells.ensures.1 in
-    let w = c.in_err-cells.was in
-    let e' : c.from_residual-in_err-cells.result ≡ Err TooManyCells = e in
-    let x : c.cells_without-2.result ≡ Err TooManyCells = cc in
-    pair_too_many c.args.x.now.cells c.args.a.now.cells c.new-nothing.result.keys c.in_ok-subset.subset.keys c.args.limit (c.args.limit - c.len.result) c.new-nothing.ensures.empty
-    (subst (λ (a : List (List Factor)). Gathers (faces_without a c.new-nothing.result.keys) c.args.limit [] c.in_ok-subset.subset.keys) c.cells.ensures.cells c.in_ok-subset.ensures.cells)
-    (subst (λ (b : List (List Factor)). GathersTooMany (faces_without b c.in_ok-subset.subset.keys) (c.args.limit - c.len.result) []) c.cells-2.ensures.cells (c.cells_without-2.ensures.many x))
-    (omega (arith, c.len.ensures.len))
+pub returns-in_err-faces-clause-many : goal.returns-in_err-faces-clause-many
+returns-in_err-faces-clause-many c e =
+    let p = err_from_is_err_and c.from_residual-in_err-faces.result c.from_residual-in_err-faces.ensures.1 in
+    let w = c.in_err-faces.was in
+    let e' : c.from_residual-in_err-faces.result ≡ Err TooManyCells = e in
+    let h : c.faces_within-2.result ≡ Err TooManyCells = cc in
+    omega (arith, c.faces_within-2.ensures.many h, faces_count c.args.x.now.cells c.args.a.now.cells (cells_of c.args.x.now.cells) (cells_of c.args.a.now.cells) refl refl)
 
-pub of_set-requires-clause-alike : goal.of_set-requires-clause-alike
-of_set-requires-clause-alike c =
-    relative_alike c.args.x.now c.args.a.now.cells c.in_ok-cells.cells.keys c.cells-2.ensures.set
-    (relative_cells c.args.x.now.cells c.args.a.now.cells c.new-nothing.result.keys c.in_ok-subset.subset.keys c.in_ok-cells.cells.keys c.args.limit (c.args.limit - c.len.result) c.new-nothing.ensures.empty
-    (subst (λ (a : List (List Factor)). Gathers (faces_without a c.new-nothing.result.keys) c.args.limit [] c.in_ok-subset.subset.keys) c.cells.ensures.cells c.in_ok-subset.ensures.cells)
-    (subst (λ (b : List (List Factor)). Gathers (faces_without b c.in_ok-subset.subset.keys) (c.args.limit - c.len.result) [] c.in_ok-cells.cells.keys) c.cells-2.ensures.cells c.in_ok-cells.ensures.cells))
+pub returns-then-limit-cells-clause-many : goal.returns-then-limit-cells-clause-many
+returns-then-limit-cells-clause-many c e =
+    let n = pair_count c.args.x.now.cells c.args.a.now.cells c.cells.result.now c.cells-2.result.now (c.cells.ensures.cells ∙ c.in_ok-faces.ensures.cells) (c.cells-2.ensures.cells ∙ c.in_ok-subset.ensures.cells) in
+    omega (arith, n, ap length c.in_ok-cells.ensures, ap length (c.cells-3.ensures.cells ∙ sym c.cells-2.ensures.cells), c.len.ensures, c.if-limit-cells.true)
+
+pub of_sorted-requires : goal.of_sorted-requires
+of_sorted-requires c =
+    subst IsSortedCells (sym (c.deref.ensures.value ∙ c.in_ok-cells.ensures ∙ ap (λ (l : List (List Factor)). without l c.cells-2.result.now) c.cells.ensures.cells)) (sorted_without c.in_ok-faces.faces c.cells-2.result.now c.cells.ensures.set)
 
 pub returns-clause-cells : goal.returns-clause-cells
 returns-clause-cells c =
-    listing_of (has_cell c.in_ok-cells.cells.keys) (is_relative c.args.x.now.cells c.args.a.now.cells) c.in_ok-numbered.numbered
-    (relative_cells c.args.x.now.cells c.args.a.now.cells c.new-nothing.result.keys c.in_ok-subset.subset.keys c.in_ok-cells.cells.keys c.args.limit (c.args.limit - c.len.result) c.new-nothing.ensures.empty
-    (subst (λ (a : List (List Factor)). Gathers (faces_without a c.new-nothing.result.keys) c.args.limit [] c.in_ok-subset.subset.keys) c.cells.ensures.cells c.in_ok-subset.ensures.cells)
-    (subst (λ (b : List (List Factor)). Gathers (faces_without b c.in_ok-subset.subset.keys) (c.args.limit - c.len.result) [] c.in_ok-cells.cells.keys) c.cells-2.ensures.cells c.in_ok-cells.ensures.cells))
-    c.in_ok-numbered.ensures
-
-pub returns-clause-few : goal.returns-clause-few
-returns-clause-few c =
-    let g : Gathers (faces_without c.args.a.now.cells c.new-nothing.result.keys) c.args.limit [] c.in_ok-subset.subset.keys =
-    subst (λ (a : List (List Factor)). Gathers (faces_without a c.new-nothing.result.keys) c.args.limit [] c.in_ok-subset.subset.keys) c.cells.ensures.cells c.in_ok-subset.ensures.cells in
-    pair_count c.args.x.now.cells c.args.a.now.cells c.new-nothing.result.keys c.in_ok-subset.subset.keys c.in_ok-cells.cells.keys c.args.limit (c.args.limit - c.len.result) c.new-nothing.ensures.empty g
-    (subst (λ (b : List (List Factor)). Gathers (faces_without b c.in_ok-subset.subset.keys) (c.args.limit - c.len.result) [] c.in_ok-cells.cells.keys) c.cells-2.ensures.cells c.in_ok-cells.ensures.cells)
-    (omega (arith, c.len.ensures.len, g.few))
+    let e = c.in_ok-numbered.ensures ∙ c.deref.ensures.value ∙ c.in_ok-cells.ensures in
+    let sorted = sorted_without c.in_ok-faces.faces c.cells-2.result.now c.cells.ensures.set in
+    listing_of (is_relative c.args.x.now.cells c.args.a.now.cells) c.in_ok-numbered.numbered
+    (subst IsSortedCells (sym (e ∙ ap (λ (l : List (List Factor)). without l c.cells-2.result.now) c.cells.ensures.cells)) sorted)
+    (λ q. ap (λ (l : List (List Factor)). has_cell l q) e ∙ relative_cells c.args.x.now.cells c.args.a.now.cells c.cells.result.now c.cells-2.result.now (c.cells.ensures.cells ∙ c.in_ok-faces.ensures.cells) (c.cells-2.ensures.cells ∙ c.in_ok-subset.ensures.cells) q)
 
 pub returns-clause-pair : goal.returns-clause-pair
 returns-clause-pair c = record { x = c.args.x.now.cells; a = c.args.a.now.cells; listing = returns-clause-cells c }
+
+pub returns-clause-few : goal.returns-clause-few
+returns-clause-few c =
+    let n = pair_count c.args.x.now.cells c.args.a.now.cells c.cells.result.now c.cells-2.result.now (c.cells.ensures.cells ∙ c.in_ok-faces.ensures.cells) (c.cells-2.ensures.cells ∙ c.in_ok-subset.ensures.cells) in
+    let few : length c.in_ok-subset.subset.cells ≤ c.args.limit = omega (arith, c.in_ok-subset.ensures.few, ap length c.in_ok-subset.ensures.cells) in
+    omega (arith, n, few, ap length c.in_ok-cells.ensures, ap length (c.cells-3.ensures.cells ∙ sym c.cells-2.ensures.cells), ap length c.cells-3.ensures.cells, c.len.ensures, c.if-limit-cells.false)
