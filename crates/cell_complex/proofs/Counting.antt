@@ -1,5 +1,5 @@
 -- The relative cells of a pair: which they are, how many, and that they are sorted cells
-use Rattle.std.proofs.Common.{◌≡◌, ℕ, suc, ◌+◌, ◌<◌, ◌≤◌, ◌^◌, refl, sym, ap, ◌∙◌, subst, arith, ⊎_elim, List, [], ◌∷◌, ◌++◌, length, filter, Bool, true, false, cond, ◌&&◌, ◌||◌, ◌==◌, length-append}
+use Rattle.std.proofs.Common.{◌≡◌, ℕ, suc, ◌+◌, ◌<◌, ◌≤◌, refl, sym, ap, ◌∙◌, subst, arith, ⊎_elim, List, [], ◌∷◌, ◌++◌, length, filter, Bool, true, false, cond, ◌&&◌, ◌||◌, ◌==◌, length-append}
 use Rattle.std.specs.Prelude.{not}
 use Rattle.std.specs.List.{list_any, list_all, flat_map, IsDistinct, AllByRecursion}
 use Rattle.std.specs.List.Sorted.{IsStrictlySortedBy}
@@ -13,7 +13,7 @@ use Rattle.std.proofs.lemmas.Map.Made.{length-from_keys, length-le_from_is_membe
 use Rattle.elem_cubes.specs.Cells.{Factor, is_file_factor, same_cell}
 use Rattle.elem_cubes.specs.Faces.{is_face, closure_of}
 use Rattle.elem_cubes.specs.Order.{cell_cmp}
-use Rattle.elem_cubes.specs.OrderLemmas.{cell_cmp_total, cell_cmp_ties, same_cell_equivalence, cell_refl, cell_cases}
+use Rattle.elem_cubes.specs.OrderLemmas.{cell_cmp_total, cell_cmp_ties, same_cell_equivalence}
 use Rattle.elem_cubes.specs.Laws.{cell_at}
 use Rattle.elem_cubes.proofs.Conjunctions.{all_at}
 use Rattle.grid_files.specs.Sorted.{has}

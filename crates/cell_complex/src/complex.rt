@@ -1,5 +1,5 @@
 //! The chain complex on numbered cells.
-ghost use Rattle.std.specs.Prelude.{◌≡◌, IfOk, OnOk, length, map};
+ghost use Rattle.std.specs.Prelude.{◌≡◌, ◌<◌, IfOk, OnOk, length, map};
 ghost use Rattle.elem_cubes.specs.Cells.{dimension_of};
 ghost use Rattle.cell_complex.specs.Boundaries.{IsSign, AddsFacet, IsBoundaryAmong, AreBoundaries};
 ghost use Rattle.cell_complex.specs.Sorted.{IsSortedCells};
@@ -10,6 +10,9 @@ use chains::{Chain, Complex};
 use elem_cubes::Cell;
 use field_mod::Field;
 use std::alloc::{AllocError, Global};
+
+// Room for the two ends of each axis, where an axis is told by its bit.
+const ENDS: usize = 32;
 
 /// The chain complex whose generators are the numbers of the cells, which are the relative cells of a pair: the degree
 /// of a cell is its dimension, and its boundary is the cubical boundary among these cells.
@@ -55,26 +58,38 @@ fn boundaries_of<const P: u16>(
 {
     let mut boundaries = Vec::with_capacity(alloc, cells.len() as usize)?;
     let mut terms = Vec::new(alloc);
+    let mut near = [0; ENDS];
     for cell in cells.cells() {
-        let boundary = boundary_among(alloc, field, cells, cell, &mut terms)?;
+        let boundary = boundary_among(alloc, field, cells, cell, &mut near, &mut terms)?;
         boundaries.push(boundary)?;
     }
     Ok(boundaries)
 }
 
-// The boundary of a cell, of which only terms at cells of the list count. The terms that `terms` holds are not kept.
+// Which end of which axis a facet of a cell is at.
+fn end_of(cell: &Cell, facet: &Cell) -> usize
+    ensures { result < ENDS }
+{
+    let axis = (cell.axes() ^ facet.axes()) % 16;
+    2 * axis as usize + usize::from(cell.lower() == facet.lower())
+}
+
+// The boundary of a cell, of which only terms at cells of the list count. The terms that `terms` holds are not kept. For each
+// end of an axis `near` has the number of the facet that was found there last: cells in order have such facets in order.
 fn boundary_among<const P: u16>(
     alloc: Global,
     field: Field<P>,
     cells: &Numbered,
     cell: &Cell,
+    near: &mut [u32; ENDS],
     terms: &mut Vec<(u32, u16)>,
 ) -> Result<Chain<P>, AllocError>
     ensures { IfOk result (IsBoundaryAmong P cells.now cell.now) }
 {
     terms.clear();
     for facet in cell.faces() {
-        push_facet(field, cells, facet, terms)?;
+        let end = end_of(cell, &facet.0);
+        push_facet(field, cells, facet, &mut near[end], terms)?;
     }
     Chain::from_terms(alloc, field, terms)
 }
@@ -84,15 +99,17 @@ fn push_facet<const P: u16>(
     field: Field<P>,
     cells: &Numbered,
     facet: (Cell, i8),
+    near: &mut u32,
     terms: &mut Vec<(u32, u16)>,
 ) -> Result<(), AllocError>
     requires { IsSign facet.1 }
     ensures { OnOk result (AddsFacet P cells.now facet.0 facet.1 terms.old.items terms.new.items) }
 {
     let (cell, sign) = facet;
-    let Some(number) = cells.number(&cell) else {
+    let Some(number) = cells.number_near(&cell, *near) else {
         return Ok(());
     };
+    *near = number;
     terms.push((number, field.of_i64(i64::from(sign))))?;
     Ok(())
 }

@@ -10,6 +10,9 @@ use indexmap::IndexSet;
 use std::alloc::{AllocError, Global};
 use std::marker::Model;
 
+// How many cells are looked at before a search of all.
+const FEW: usize = 16;
+
 /// Distinct cells in the order of cells, seen as their list: fewer than 2^32, with as many factors as each other and
 /// within the range of the files. The number of a cell is its place, counted from 0.
 #[derive(Drop)]
@@ -85,4 +88,29 @@ impl Numbered {
         };
         Some(index as u32)
     }
+
+    // The same, found sooner where the cell is one of the few from a place on.
+    pub(crate) fn number_near(&self, cell: &Cell, near: u32) -> Option<u32>
+        ensures found { IsSome result ↔ Contains self.now cell.now }
+        ensures place { IfSome result (λ number. slice_get self.now number ≡ Some cell.now) }
+        ensures sorted { IsSortedCells self.now }
+    {
+        match place_from(self.cells(), cell, near as usize) {
+            Some(place) => Some(place as u32),
+            None => self.number(cell),
+        }
+    }
+}
+
+// The place of a cell, where it is one of the few from a place on.
+fn place_from(cells: &[Cell], cell: &Cell, near: usize) -> Option<usize>
+    ensures { IfSome result (λ place. slice_get cells.now place ≡ Some cell.now) }
+{
+    let end = near.saturating_add(FEW).min(cells.len());
+    for place in near..end {
+        if cells[place] == *cell {
+            return Some(place);
+        }
+    }
+    None
 }
