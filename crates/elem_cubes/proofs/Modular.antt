@@ -1,9 +1,7 @@
 -- Equalities modulo p that the signs need.
-use Rattle.std.proofs.Common.{◌≡◌, ℕ, zero, suc, ◌+◌, ◌-◌, ◌*◌, ◌<◌, ◌≤◌, refl, sym, ap, ◌∙◌, arith, Bool, true, false, cond, eqb, eqb-true, eq-eqb, ne_eqb, true≢false, zero-mul}
+use Rattle.std.proofs.Common.{◌≡◌, ℕ, zero, suc, ◌+◌, ◌-◌, ◌*◌, ◌≤◌, refl, sym, ap, arith, Bool, true, false, cond}
 use Rattle.std.specs.Prelude.{ℤ, pos, negsuc, neg_ℤ}
-use Rattle.field_mod.specs.Sums.{total}
 use Rattle.field_mod.specs.Modular.{Same}
-use Rattle.field_mod.proofs.Sums.{total-same, total-zero}
 use Rattle.field_mod.proofs.Modular.{same_by, same_trans, neg_cancel}
 use Rattle.elem_cubes.specs.Boundary.{residue}
 

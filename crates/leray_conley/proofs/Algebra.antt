@@ -3,7 +3,7 @@ use Rattle.std.proofs.Common.{◌≡◌, ℕ, ◌+◌, ◌*◌, ◌∙◌, arith
 use Rattle.field_mod.proofs.Sums.{total-same, total_same, total-add, total-scale, total-swap, total_none, total-single}
 use Rattle.field_mod.proofs.Modular.{same_refl, same_sym, same_trans, same-add, same-scale, same-mul}
 use Rattle.field_mod.specs.Sums.{total}
-use Rattle.leray_conley.proofs.Totals.{exact, total-at, eqb_sym}
+use Rattle.leray_conley.proofs.Totals.{exact, total-at}
 use Rattle.leray_conley.specs.Products.{product, identity, AreSame, none}
 
 abbrev pub plus : (ℕ → ℕ → ℕ) → (ℕ → ℕ → ℕ) → ℕ → ℕ → ℕ

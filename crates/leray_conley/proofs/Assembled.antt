@@ -1,12 +1,12 @@
 -- The five matrices of a splitting, from the tables that the program makes one after the other
-use Rattle.std.proofs.Common.{◌≡◌, ◌∙◌, ℕ, ◌+◌, ◌*◌, ◌%◌, ◌<◌, ◌≤◌, refl, sym, ap, arith, subst, ⊎_elim}
+use Rattle.std.proofs.Common.{◌≡◌, ◌∙◌, ℕ, ◌+◌, ◌*◌, ◌%◌, ◌<◌, ◌≤◌, sym, arith, subst, ⊎_elim}
 use Rattle.std.proofs.lemmas.Bool.{cases_lt}
 use Rattle.std.proofs.lemmas.Nat.{mul-le}
 use Rattle.field_mod.proofs.Modular.{same_trans}
-use Rattle.leray_conley.specs.Products.{product, identity, AreSame}
+use Rattle.leray_conley.specs.Products.{product, AreSame}
 use Rattle.leray_conley.specs.Kernels.{IsKilled}
 use Rattle.leray_conley.specs.Inverses.{IsInverse}
-use Rattle.leray_conley.specs.Splitting.{beside, Splitting, IsLeraySplitting, IsSplit}
+use Rattle.leray_conley.specs.Splitting.{beside, IsLeraySplitting, IsSplit}
 use Rattle.leray_conley.specs.Tables.{Table, HasEntries, entry}
 use Rattle.leray_conley.proofs.Algebra.{mul_right}
 use Rattle.leray_conley.proofs.Halves.{reduced_unkilled, splitting}

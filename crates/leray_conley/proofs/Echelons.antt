@@ -1,15 +1,14 @@
 -- Rows in reduced form: clearing a row, and taking one more in
-use Rattle.std.proofs.Common.{◌≡◌, ℕ, zero, suc, ◌+◌, ◌-◌, ◌*◌, ◌%◌, ◌<◌, ◌≤◌, ◌⊎◌, refl, sym, ap, ◌∙◌, arith, ⊎_elim, cond, eqb, eq-eqb, ne_eqb, inl, inr, List, [], ◌∷◌, ◌++◌, length, get_or, set}
+use Rattle.std.proofs.Common.{◌≡◌, ℕ, ◌+◌, ◌-◌, ◌*◌, ◌%◌, ◌<◌, ◌⊎◌, refl, sym, ap, ◌∙◌, arith, ⊎_elim, eq-eqb, ne_eqb, inl, inr, List, [], ◌∷◌, ◌++◌, length, get_or, set}
 use Rattle.std.proofs.lemmas.Bool.{cases_lt}
 use Rattle.std.proofs.lemmas.List.{get_or-set_same, get_or-set_other, get_or_append_left, get_or_push}
 use native.Mathlib.Nat.{mod-mod}
-use Rattle.field_mod.specs.Sums.{total}
 use Rattle.field_mod.specs.Modular.{Same, minus}
-use Rattle.field_mod.proofs.Sums.{total-same, total-add, total-scale, total_same, total_none}
+use Rattle.field_mod.proofs.Sums.{total-same, total-add, total-scale, total_same}
 use Rattle.field_mod.proofs.Modular.{same_by, same_refl, same_sym, same_trans, same-add, same-scale, same-mul, neg_cancel}
 use Rattle.leray_conley.specs.Products.{identity}
 use Rattle.leray_conley.specs.Kernels.{IsInKernel}
-use Rattle.leray_conley.specs.Echelons.{along, IsEchelon, IsExtended}
+use Rattle.leray_conley.specs.Echelons.{along, IsEchelon}
 use Rattle.leray_conley.proofs.Totals.{exact}
 
 pub same_mod : (p a : ℕ) → Same p (a % p) a

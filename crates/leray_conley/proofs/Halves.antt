@@ -1,13 +1,11 @@
 -- From the two parts of a splitting to its five matrices
-use Rattle.std.proofs.Common.{◌≡◌, ℕ, zero, suc, ◌+◌, ◌-◌, ◌*◌, ◌<◌, ◌≤◌, refl, sym, ap, ◌∙◌, arith, lt-ltb}
-use Rattle.field_mod.specs.Sums.{total}
-use Rattle.field_mod.specs.Modular.{Same, IsField}
+use Rattle.std.proofs.Common.{ℕ, ◌*◌, refl, arith, lt-ltb}
 use Rattle.field_mod.proofs.Sums.{total-same}
-use Rattle.field_mod.proofs.Modular.{same_refl, same_trans}
+use Rattle.field_mod.proofs.Modular.{same_trans}
 use Rattle.leray_conley.specs.Products.{product, identity, none, AreSame}
-use Rattle.leray_conley.specs.Kernels.{IsInKernel, IsKilled}
+use Rattle.leray_conley.specs.Kernels.{IsKilled}
 use Rattle.leray_conley.specs.Inverses.{IsInverse}
-use Rattle.leray_conley.specs.Splitting.{beside, Splitting, IsLeraySplitting, IsSplit}
+use Rattle.leray_conley.specs.Splitting.{beside, IsLeraySplitting, IsSplit}
 use Rattle.leray_conley.proofs.Algebra.{by, chain, mul_left, mul_right, assoc, one_mul, mul_none}
 use Rattle.leray_conley.proofs.Totals.{exact}
 

@@ -1,8 +1,8 @@
 -- Taking one more row in, over lists
-use Rattle.std.proofs.Common.{◌≡◌, ℕ, zero, suc, ◌+◌, ◌-◌, ◌*◌, ◌%◌, ◌<◌, ◌≤◌, List, [], ◌∷◌, ◌++◌, length, get_or, refl, sym, ap, ◌∙◌, arith, ⊎_elim, subst}
+use Rattle.std.proofs.Common.{◌≡◌, ℕ, ◌+◌, ◌*◌, ◌%◌, ◌<◌, ◌≤◌, List, [], ◌∷◌, ◌++◌, length, get_or, sym, ap, ◌∙◌, arith, ⊎_elim, subst}
 use Rattle.std.proofs.lemmas.List.{get_or_append_left, get_or_push, length_push}
 use Rattle.field_mod.specs.Modular.{Same, minus}
-use Rattle.field_mod.proofs.Modular.{same_by, same_refl, same_sym, same_trans, same-add, same-scale, same-mul, neg_cancel}
+use Rattle.field_mod.proofs.Modular.{same_by, same_refl, same_sym, same_trans, same-scale, same-mul, neg_cancel}
 use Rattle.leray_conley.specs.Rows.{IsLeading}
 use Rattle.leray_conley.specs.Kernels.{IsInKernel}
 use Rattle.leray_conley.specs.Echelons.{along, cell, IsEchelon, HasEchelon, IsExtended}

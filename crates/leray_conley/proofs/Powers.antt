@@ -1,5 +1,5 @@
 -- Powers of a square matrix, and what they send to 0: from the power d on they all send the same vectors to 0
-use Rattle.std.proofs.Common.{◌≡◌, ℕ, zero, suc, ◌+◌, ◌-◌, ◌*◌, ◌<◌, ◌≤◌, refl, sym, ap, ◌∙◌, arith, subst}
+use Rattle.std.proofs.Common.{◌≡◌, ℕ, zero, suc, ◌+◌, ◌-◌, ◌≤◌, sym, arith, subst}
 use Rattle.field_mod.specs.Modular.{IsField}
 use Rattle.leray_conley.specs.Products.{product, identity, power, AreSame, none}
 use Rattle.leray_conley.specs.Splitting.{Splitting, IsLeraySplitting}

@@ -1,5 +1,5 @@
 -- Each matrix has a rank and one alone; rows and columns give the same, and invertible factors leave it
-use Rattle.std.proofs.Common.{◌≡◌, ℕ, zero, suc, ◌+◌, ◌-◌, ◌*◌, ◌<◌, ◌≤◌, ◌⊎◌, inl, inr, refl, sym, ap, ◌∙◌, arith, ⊎_elim, Bool, cond, ltb, lt-ltb, le-ltb, subst}
+use Rattle.std.proofs.Common.{◌≡◌, ℕ, zero, suc, ◌+◌, ◌*◌, ◌<◌, ◌≤◌, ◌⊎◌, inl, inr, refl, ap, ◌∙◌, arith, ⊎_elim, Bool, cond, ltb, lt-ltb, le-ltb, subst}
 use Rattle.std.proofs.lemmas.Bool.{cases_lt}
 use Rattle.field_mod.specs.Sums.{total}
 use Rattle.field_mod.specs.Modular.{Same, NonZero, IsField, minus}
@@ -9,7 +9,7 @@ use Rattle.leray_conley.specs.Products.{product, identity, transpose, none, AreS
 use Rattle.leray_conley.specs.Kernels.{IsInKernel, IsInjective}
 use Rattle.leray_conley.specs.Echelons.{along, IsEchelon}
 use Rattle.leray_conley.specs.Ranks.{IsImageBasis, IsRank, RanksExist, RanksAgree, RanksOfTransposesAgree, LeftFactorsKeepRanks, RightFactorsKeepRanks}
-use Rattle.leray_conley.proofs.Algebra.{plus, by, chain, add, itself, mul_left, mul_right, assoc, sum_mul, one_mul, mul_one, mul_none, sum_none}
+use Rattle.leray_conley.proofs.Algebra.{by, chain, add, itself, mul_left, mul_right, assoc, sum_mul, one_mul, mul_one, mul_none, sum_none}
 use Rattle.leray_conley.proofs.Echelons.{along-scale, below_cases, IsInserted, inserted_echelon, inserted_forth, inserted_back, inserted_last}
 use Rattle.leray_conley.proofs.Inverses.{right_inverses_are_left}
 use Rattle.leray_conley.proofs.Reduced.{column, picked, rank}

@@ -1,17 +1,17 @@
 -- What the rows of a matrix in reduced form tell: its kernel, a basis of its image, its rank
-use Rattle.std.proofs.Common.{◌≡◌, ◌≢◌, ℕ, zero, suc, ◌+◌, ◌-◌, ◌*◌, ◌<◌, ◌≤◌, ◌⊎◌, inl, inr, refl, sym, ap, ◌∙◌, arith, ⊎_elim, cond, eqb}
+use Rattle.std.proofs.Common.{◌≡◌, ◌≢◌, ℕ, zero, suc, ◌+◌, ◌-◌, ◌*◌, ◌<◌, ◌≤◌, ◌⊎◌, inl, inr, sym, ap, ◌∙◌, arith, ⊎_elim, cond, eqb}
 use Rattle.std.proofs.lemmas.Bool.{cases_lt}
 use Rattle.field_mod.specs.Sums.{total}
-use Rattle.field_mod.specs.Modular.{Same, NonZero, IsField, minus}
+use Rattle.field_mod.specs.Modular.{Same, IsField, minus}
 use Rattle.field_mod.proofs.Sums.{total-same, total-scale, total_same, total-single, total_none}
 use Rattle.field_mod.proofs.Modular.{same_by, same_refl, same_sym, same_trans, same-add, same-scale, same-mul, neg_cancel, one_nonzero}
 use Rattle.leray_conley.specs.Products.{product, identity, none, AreSame}
 use Rattle.leray_conley.specs.Kernels.{IsInKernel, IsInjective, IsKilled}
 use Rattle.leray_conley.specs.Echelons.{IsEchelon, kernel_matrix}
 use Rattle.leray_conley.specs.Ranks.{IsImageBasis, IsRank}
-use Rattle.leray_conley.proofs.Algebra.{plus, by, chain, add, itself, mul_left, mul_right, assoc, mul_sum, one_mul, mul_one, mul_none, sum_none}
+use Rattle.leray_conley.proofs.Algebra.{plus, by, chain, add, itself, mul_left, mul_right, assoc, mul_sum, one_mul, mul_one, mul_none}
 use Rattle.leray_conley.proofs.Echelons.{identity_same, identity_other, same_or_not}
-use Rattle.leray_conley.proofs.Totals.{exact, eqb_sym, total-at}
+use Rattle.leray_conley.proofs.Totals.{exact, total-at}
 use Rattle.field_mod.proofs.Solutions.{solve}
 
 -- a vector as a matrix with one column

@@ -1,13 +1,11 @@
 -- The rows of a matrix, taken in one after the other
-use Rattle.std.proofs.Common.{◌≡◌, ℕ, ◌+◌, ◌*◌, ◌<◌, List, length, get_or, sym, ap, ◌∙◌, arith, ⊎_elim, subst, refl, lt-ltb}
+use Rattle.std.proofs.Common.{◌≡◌, ℕ, ◌+◌, ◌*◌, List, length, get_or, sym, ap, ◌∙◌, arith, ⊎_elim, subst, refl, lt-ltb}
 use Rattle.field_mod.specs.Sums.{total}
-use Rattle.field_mod.specs.Modular.{Same}
 use Rattle.field_mod.proofs.Sums.{total-same}
 use Rattle.field_mod.proofs.Modular.{same_trans}
 use Rattle.leray_conley.specs.Products.{identity}
 use Rattle.leray_conley.specs.Splitting.{beside}
 use Rattle.leray_conley.specs.Rows.{IsRowOf}
-use Rattle.leray_conley.specs.Kernels.{IsInKernel}
 use Rattle.leray_conley.specs.Echelons.{along, cell, HasEchelon, IsExtended, IsReduction}
 use Rattle.leray_conley.proofs.Totals.{exact}
 use Rattle.leray_conley.proofs.Echelons.{below_cases}

@@ -1,10 +1,10 @@
 -- Elimination of a square matrix beside the identity: where the matrix kills nothing, its inverse stands on the right
-use Rattle.std.proofs.Common.{◌≡◌, ◌≢◌, ℕ, zero, suc, ◌+◌, ◌-◌, ◌*◌, ◌<◌, ◌≤◌, ◌⊎◌, inl, inr, refl, sym, ap, ◌∙◌, arith, ⊎_elim, cond, ltb, lt-ltb, le-ltb, List, length, get_or, subst}
+use Rattle.std.proofs.Common.{◌≡◌, ℕ, ◌+◌, ◌-◌, ◌*◌, ◌<◌, ◌≤◌, refl, sym, ap, ◌∙◌, arith, ⊎_elim, cond, ltb, lt-ltb, le-ltb, List, length, get_or, subst}
 use Rattle.std.proofs.lemmas.Bool.{cases_lt}
 use Rattle.field_mod.specs.Sums.{total}
 use Rattle.field_mod.specs.Modular.{Same, IsField, minus}
 use Rattle.field_mod.proofs.Sums.{total-same, total-scale, total_none}
-use Rattle.field_mod.proofs.Modular.{same_by, same_refl, same_sym, same_trans, same-add, same-scale, same-mul, neg_cancel, one_nonzero}
+use Rattle.field_mod.proofs.Modular.{same_by, same_refl, same_sym, same_trans, same-add, same-scale, neg_cancel, one_nonzero}
 use Rattle.leray_conley.specs.Products.{product, identity, none, AreSame}
 use Rattle.leray_conley.specs.Kernels.{IsInKernel, IsKilled}
 use Rattle.leray_conley.specs.Inverses.{IsInverse}

@@ -1,17 +1,16 @@
 -- The splitting by a high power of a square matrix: its image, from the pivots, and its kernel
-use Rattle.std.proofs.Common.{◌≡◌, ◌≢◌, ℕ, zero, suc, ◌+◌, ◌-◌, ◌*◌, ◌<◌, ◌≤◌, ◌⊎◌, inl, inr, refl, sym, ap, ◌∙◌, arith, ⊎_elim, Bool, cond, ltb, lt-ltb, le-ltb, List, length, get_or, subst}
+use Rattle.std.proofs.Common.{◌≡◌, ◌≢◌, ℕ, suc, ◌+◌, ◌-◌, ◌*◌, ◌<◌, ◌≤◌, refl, sym, ap, ◌∙◌, arith, ⊎_elim, Bool, cond, ltb, lt-ltb, le-ltb, List, length, get_or, subst}
 use Rattle.std.proofs.lemmas.Bool.{cases_lt}
 use Rattle.field_mod.specs.Sums.{total}
 use Rattle.field_mod.specs.Modular.{Same, IsField}
 use Rattle.field_mod.proofs.Sums.{total-same, total_same, total_none}
-use Rattle.field_mod.proofs.Modular.{same_refl, same_sym, same_trans, same-add, same-scale, same-mul}
+use Rattle.field_mod.proofs.Modular.{same_refl, same_sym, same_trans, same-scale, same-mul}
 use Rattle.leray_conley.specs.Products.{product, identity, power, none, AreSame}
 use Rattle.leray_conley.specs.Kernels.{IsInKernel, IsKilled}
-use Rattle.leray_conley.specs.Inverses.{IsInverse}
 use Rattle.leray_conley.specs.Splitting.{beside, IsHighPower, IsSplit}
 use Rattle.leray_conley.specs.Tables.{Table, entry}
 use Rattle.leray_conley.specs.Echelons.{AreFree, IsEchelon, IsReduction, cell, kernel_matrix}
-use Rattle.leray_conley.proofs.Algebra.{plus, by, chain, add, itself, mul_left, mul_right, assoc, mul_sum, one_mul, mul_one, mul_none, sum_none}
+use Rattle.leray_conley.proofs.Algebra.{plus, by, chain, add, itself, mul_left, mul_right, assoc, mul_sum, mul_none, sum_none}
 use Rattle.leray_conley.proofs.Echelons.{identity_same, identity_other, same_or_not}
 use Rattle.leray_conley.proofs.Existence.{total-split}
 use Rattle.leray_conley.proofs.Powers.{power-add, power_turned, power_dies, power_stays}

@@ -1,9 +1,8 @@
 -- Sums over one place, and numbers modulo p
-use Rattle.std.proofs.Common.{List, length, get_or, ◌≡◌, ℕ, zero, suc, ◌+◌, ◌-◌, ◌*◌, ◌/◌, ◌%◌, ◌<◌, ◌≤◌, ◌⊎◌, inl, inr, refl, sym, ap, ◌∙◌, arith, ⊎_elim, Bool, true, false, cond, eqb, ne_eqb, eq-eqb, eqb-true, true≢false}
-use native.Mathlib.Nat.{zero-mod, zero-mul, eq-zero-or-pos, mod-eq_of_lt}
+use Rattle.std.proofs.Common.{List, length, get_or, ◌≡◌, ℕ, zero, suc, ◌+◌, ◌-◌, ◌*◌, ◌/◌, ◌%◌, ◌<◌, ◌≤◌, refl, sym, ap, ◌∙◌, arith, true, false, cond, eqb, ne_eqb, eq-eqb, eqb-true, true≢false}
 use Rattle.std.proofs.lemmas.Nat.{mul-lt}
 use Rattle.field_mod.specs.Sums.{total}
-use Rattle.field_mod.specs.Modular.{Same, NonZero, IsField}
+use Rattle.field_mod.specs.Modular.{Same}
 use Rattle.field_mod.proofs.Sums.{total-same, total-single}
 use Rattle.field_mod.proofs.Modular.{same_by, same_refl, same_sym, same_trans, same-add, neg_cancel}
 

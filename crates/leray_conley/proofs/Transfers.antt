@@ -1,10 +1,9 @@
 -- Facts of a matrix pass to one with the same entries
-use Rattle.std.proofs.Common.{◌≡◌, ◌∙◌, ℕ, ◌+◌, ◌*◌, ◌%◌, ◌<◌, sym, ap, refl, List, length, arith, subst, Option, None, Some, MatchOption}
-use Rattle.field_mod.specs.Sums.{total}
+use Rattle.std.proofs.Common.{◌≡◌, ℕ, ◌+◌, ◌*◌, ◌%◌, ◌<◌, sym, ap, List, arith, subst, Option, None, Some, MatchOption}
 use Rattle.field_mod.proofs.Sums.{total-same}
 use Rattle.field_mod.proofs.Modular.{same_trans}
 use Rattle.leray_conley.specs.Kernels.{IsInKernel, IsKilled, IsKernelVector}
-use Rattle.leray_conley.specs.Products.{product, power, identity, AreSame}
+use Rattle.leray_conley.specs.Products.{product, power, AreSame}
 use Rattle.leray_conley.specs.Inverses.{IsInverse}
 use Rattle.leray_conley.specs.Tables.{Table, HasEntries, entry}
 use Rattle.leray_conley.proofs.Algebra.{by, chain, mul_left, mul_right}

@@ -1,6 +1,6 @@
 -- What the program answers as a splitting
-use Rattle.std.specs.Prelude.{◌≡◌, ℕ, ◌+◌, refl}
-use Rattle.leray_conley.specs.Tables.{Table, entry}
+use Rattle.std.specs.Prelude.{◌≡◌, ℕ, ◌+◌}
+use Rattle.leray_conley.specs.Tables.{entry}
 use Rattle.leray_conley.specs.Splitting.{Splitting}
 use Rattle.leray_conley.specs.declared.leray.Leray.{Leray}
 

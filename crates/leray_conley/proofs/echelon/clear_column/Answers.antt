@@ -1,4 +1,4 @@
-use Rattle.std.proofs.Common.{◌≡◌, ◌∙◌, ◌+◌, ◌-◌, ◌*◌, ◌%◌, ◌<◌, ◌≤◌, ℕ, List, ap, arith, get_or, length, [], refl, sym}
+use Rattle.std.proofs.Common.{◌≡◌, ◌∙◌, ◌+◌, ◌*◌, ◌<◌, ℕ, List, ap, arith, get_or, length, [], refl, sym}
 use Rattle.std.proofs.lemmas.List.{get_or_read, length-set}
 use Rattle.leray_conley.specs.Echelons.{cell}
 use Rattle.field_mod.specs.Modular.{Same, minus}

@@ -1,4 +1,4 @@
-use Rattle.std.proofs.Common.{◌≡◌, ◌<◌, ◌≤◌, ◌+◌, ◌-◌, ◌*◌, ◌%◌, ℕ, length, get_or, [], List}
+use Rattle.std.proofs.Common.{◌≡◌, ◌<◌, ◌≤◌, ◌+◌, ◌*◌, ℕ, length, get_or, []}
 use Rattle.field_mod.specs.Modular.{Same, minus}
 use Rattle.leray_conley.specs.Echelons.{cell}
 use Rattle.leray_conley.proofs.echelon.clear_column.Given as goal

@@ -2,7 +2,7 @@ use Rattle.std.proofs.Common.{◌≡◌, ◌∙◌, ◌+◌, ◌*◌, ◌<◌, �
 use Rattle.std.proofs.lemmas.List.{get_or_read}
 use Rattle.field_mod.specs.Modular.{Same}
 use Rattle.field_mod.proofs.Modular.{same_trans}
-use Rattle.leray_conley.specs.Echelons.{along, cell}
+use Rattle.leray_conley.specs.Echelons.{cell}
 use Rattle.leray_conley.proofs.Echelons.{added_at, along_kept, cleared_at, cleared_more}
 use Rattle.leray_conley.proofs.echelon.clear_row.Goals as goal
 

@@ -1,4 +1,4 @@
-use Rattle.std.proofs.Common.{◌≡◌, ◌<◌, ℕ, length, get_or, [], List}
+use Rattle.std.proofs.Common.{◌≡◌, ◌<◌, ℕ, length, get_or}
 use Rattle.field_mod.specs.Modular.{Same}
 use Rattle.leray_conley.specs.Echelons.{along, cell}
 use Rattle.leray_conley.specs.Kernels.{IsInKernel}

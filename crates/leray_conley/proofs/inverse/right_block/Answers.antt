@@ -1,4 +1,4 @@
-use Rattle.std.proofs.Common.{◌≡◌, ◌∙◌, ◌+◌, ◌*◌, ◌<◌, ◌≤◌, ◌++◌, ℕ, List, ap, arith, get_or, length, [], sym, subst}
+use Rattle.std.proofs.Common.{◌≡◌, ◌∙◌, ◌+◌, ◌*◌, ◌<◌, ℕ, List, ap, arith, get_or, length, [], sym, subst}
 use Rattle.std.proofs.lemmas.List.{get_or_read, length-append}
 use Rattle.leray_conley.specs.Echelons.{IsRightBlock, cell}
 use Rattle.leray_conley.proofs.Filling.{appended_below, block_more, block_read}

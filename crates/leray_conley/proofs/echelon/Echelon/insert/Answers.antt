@@ -1,6 +1,6 @@
-use Rattle.std.proofs.Common.{◌≡◌, ◌∙◌, ◌+◌, ◌-◌, ◌*◌, ◌%◌, ◌<◌, ◌≤◌, ◌++◌, ◌∷◌, ℕ, List, ap, sym, subst, arith, get_or, length, []}
+use Rattle.std.proofs.Common.{◌∙◌, ◌*◌, ◌%◌, ◌++◌, ◌∷◌, ℕ, List, ap, sym, subst, arith, get_or, length, []}
 use Rattle.field_mod.proofs.Table.{two_le}
-use Rattle.leray_conley.specs.Echelons.{HasEchelon, IsExtended, along, cell}
+use Rattle.leray_conley.specs.Echelons.{HasEchelon, IsExtended, cell}
 use Rattle.leray_conley.proofs.Insertions.{IsCleared, IsTaken, nothing_left, taken_form, taken_kernel}
 use Rattle.leray_conley.proofs.echelon.Echelon.insert.Goals as goal
 

@@ -1,7 +1,7 @@
-use Rattle.std.proofs.Common.{◌≡◌, ◌∙◌, ◌+◌, ◌-◌, ◌*◌, ◌%◌, ◌<◌, ℕ, List, ap, arith, get_or, length, [], sym}
+use Rattle.std.proofs.Common.{◌≡◌, ◌∙◌, ◌+◌, ◌<◌, ℕ, List, ap, arith, get_or, length, [], sym}
 use Rattle.std.proofs.lemmas.List.{get_or_read, length-set}
-use Rattle.field_mod.specs.Modular.{Same, minus}
-use Rattle.field_mod.proofs.Modular.{same_refl, same_trans, same-add, same-scale}
+use Rattle.field_mod.specs.Modular.{Same}
+use Rattle.field_mod.proofs.Modular.{same_trans}
 use Rattle.leray_conley.specs.Products.{identity}
 use Rattle.leray_conley.specs.Echelons.{cell, kernel_matrix}
 use Rattle.leray_conley.proofs.Totals.{exact}

@@ -1,4 +1,4 @@
-use Rattle.std.proofs.Common.{◌≡◌, ◌<◌, ◌≢◌, ℕ, get_or}
+use Rattle.std.proofs.Common.{◌<◌, ◌≢◌, ℕ, get_or}
 use Rattle.leray_conley.proofs.echelon.Echelon.row_of.Given as goal
 
 abbrev pub invariant-loop-k : goal.invariant-loop-k

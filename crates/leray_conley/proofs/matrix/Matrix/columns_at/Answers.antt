@@ -1,4 +1,4 @@
-use Rattle.std.proofs.Common.{◌∙◌, ◌≡◌, ◌*◌, ℕ, ap, arith, length, refl}
+use Rattle.std.proofs.Common.{◌∙◌, ◌*◌, ℕ, ap, arith, length, refl}
 use Rattle.leray_conley.proofs.Filling.{filled_matrix}
 use Rattle.leray_conley.proofs.matrix.Matrix.columns_at.Goals as goal
 

@@ -1,4 +1,4 @@
-use Rattle.std.proofs.Common.{ℕ, get_or}
+use Rattle.std.proofs.Common.{get_or}
 use Rattle.leray_conley.specs.Tables.{entry}
 use Rattle.leray_conley.proofs.Filling.{IsFilled}
 use Rattle.leray_conley.proofs.matrix.Matrix.columns_at.Given as goal

@@ -1,7 +1,7 @@
-use Rattle.std.proofs.Common.{◌≡◌, ◌∙◌, ◌+◌, ◌*◌, ◌<◌, ◌≤◌, ℕ, List, MatchOption, ap, arith, get_or, length, sym, subst, lit<}
+use Rattle.std.proofs.Common.{ℕ, get_or, sym, subst, lit<}
 use Rattle.field_mod.proofs.Table.{is_field}
 use Rattle.leray_conley.specs.Inverses.{IsInverse}
-use Rattle.leray_conley.specs.Kernels.{IsKernelVector, IsKilled}
+use Rattle.leray_conley.specs.Kernels.{IsKernelVector}
 use Rattle.leray_conley.specs.Tables.{entry}
 use Rattle.leray_conley.proofs.Inverses.{no_inverse}
 use Rattle.leray_conley.proofs.RightBlocks.{free_square, inverts_of, pivots_of, square_bound, squared}

@@ -1,9 +1,7 @@
-use Rattle.std.proofs.Common.{◌≡◌, ◌∙◌, ◌≢◌, ◌<◌, ℕ, List, ap, arith, get_or, length, [], sym, subst, lit<, eqb-true, eq-eqb, true≢false, ⊎_elim}
-use Rattle.std.proofs.lemmas.Bool.{cases_lt}
+use Rattle.std.proofs.Common.{◌≡◌, ◌∙◌, ◌<◌, ℕ, arith, get_or, length, sym, subst, lit<, eqb-true, ⊎_elim}
 use Rattle.std.proofs.lemmas.List.{get_or_read}
-use Rattle.field_mod.specs.Modular.{Same}
 use Rattle.field_mod.proofs.Table.{is_field}
-use Rattle.leray_conley.specs.Echelons.{AreFree, HasEchelon, IsReduction, cell, kernel_matrix}
+use Rattle.leray_conley.specs.Echelons.{HasEchelon, cell}
 use Rattle.leray_conley.specs.Tables.{entry}
 use Rattle.leray_conley.proofs.Reduced.{among, free_killed, none_killed}
 use Rattle.leray_conley.proofs.Reductions.{narrowed}

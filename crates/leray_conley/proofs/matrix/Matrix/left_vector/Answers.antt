@@ -1,4 +1,4 @@
-use Rattle.std.proofs.Common.{◌≡◌, ◌<◌, ℕ, List, MatchOption}
+use Rattle.std.proofs.Common.{ℕ, MatchOption}
 use Rattle.std.proofs.lemmas.Result.{IfOk-weaker}
 use Rattle.leray_conley.specs.Kernels.{IsKilled, IsKernelVector}
 use Rattle.leray_conley.specs.Products.{transpose}

@@ -1,4 +1,4 @@
-use Rattle.std.proofs.Common.{◌≡◌, ◌∙◌, ◌+◌, ◌*◌, ◌<◌, ◌≤◌, ℕ, ap, arith, sym, subst, lit<}
+use Rattle.std.proofs.Common.{◌∙◌, ◌*◌, ℕ, ap, arith, sym, lit<}
 use Rattle.leray_conley.proofs.Assembled.{assembled, reduced_columns, reduced_free, reduced_rows, reduced_square, small_size, split_free, split_square, whole_columns, whole_rows}
 use Rattle.leray_conley.proofs.matrix.Matrix.leray.Goals as goal
 

@@ -1,6 +1,5 @@
-use Rattle.std.proofs.Common.{◌≡◌, ◌∙◌, ◌+◌, ◌*◌, ◌<◌, ◌≤◌, ℕ, List, ap, arith, get_or, length, sym, subst, lit<, refl}
+use Rattle.std.proofs.Common.{◌≡◌, ◌∙◌, ◌<◌, ◌≤◌, ℕ, List, ap, arith, get_or, length, sym, subst, lit<, refl}
 use Rattle.std.proofs.lemmas.Nat.{mul-le}
-use Rattle.field_mod.specs.Modular.{Same}
 use Rattle.field_mod.proofs.Table.{is_field}
 use Rattle.field_mod.proofs.Modular.{same_trans}
 use Rattle.leray_conley.specs.Echelons.{AreFree, HasEchelon, cell, kernel_matrix}

@@ -1,4 +1,4 @@
-use Rattle.std.proofs.Common.{◌≡◌, ◌∙◌, ◌+◌, ◌-◌, ◌*◌, ◌<◌, ℕ, arith}
+use Rattle.std.proofs.Common.{arith}
 use Rattle.leray_conley.specs.Tables.{entry}
 use Rattle.leray_conley.proofs.Algebra.{by, chain, mul_one}
 use Rattle.leray_conley.proofs.Transfers.{entries_same, squared_power}

@@ -1,4 +1,4 @@
-use Rattle.std.proofs.Common.{◌≡◌, ◌-◌, ◌<◌, ◌≤◌}
+use Rattle.std.proofs.Common.{◌≡◌, ◌-◌, ◌<◌}
 use Rattle.leray_conley.specs.Products.{AreSame, power}
 use Rattle.leray_conley.specs.Tables.{entry}
 use Rattle.leray_conley.proofs.matrix.Matrix.raise.Given as goal

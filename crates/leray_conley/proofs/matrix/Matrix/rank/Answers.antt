@@ -1,4 +1,4 @@
-use Rattle.std.proofs.Common.{◌≡◌, ◌<◌, ◌≤◌, ◌∙◌, ℕ, List, arith, get_or, length, subst, sym}
+use Rattle.std.proofs.Common.{◌≡◌, ℕ, arith, get_or, length, subst}
 use Rattle.field_mod.proofs.Table.{is_field}
 use Rattle.leray_conley.specs.Echelons.{cell}
 use Rattle.leray_conley.specs.Ranks.{IsRank}

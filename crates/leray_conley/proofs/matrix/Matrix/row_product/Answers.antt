@@ -1,4 +1,4 @@
-use Rattle.std.proofs.Common.{◌≡◌, ◌∙◌, ◌%◌, ap, ℕ, arith}
+use Rattle.std.proofs.Common.{◌∙◌, ◌%◌, ap, ℕ, arith}
 use Rattle.leray_conley.specs.Products.{product, transpose}
 use Rattle.leray_conley.specs.Tables.{entry}
 use Rattle.leray_conley.proofs.Totals.{total-lists}

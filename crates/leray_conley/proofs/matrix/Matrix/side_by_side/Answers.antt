@@ -1,4 +1,4 @@
-use Rattle.std.proofs.Common.{◌∙◌, ◌≡◌, ◌+◌, ◌*◌, ℕ, ap, arith, List, sym, subst}
+use Rattle.std.proofs.Common.{◌∙◌, ◌+◌, ◌*◌, ℕ, ap, arith, List, sym, subst}
 use Rattle.leray_conley.specs.Splitting.{beside}
 use Rattle.leray_conley.specs.Tables.{entry}
 use Rattle.leray_conley.proofs.Filling.{IsFilled, filled_matrix, filled_more}

@@ -1,7 +1,7 @@
-use Rattle.std.proofs.Common.{lit<, ◌∙◌, ◌≡◌, ◌%◌, ◌*◌, ◌<◌, ℕ, ap, arith}
+use Rattle.std.proofs.Common.{lit<, ◌%◌, ◌*◌, ◌<◌, ℕ, ap, arith}
 use Rattle.std.proofs.lemmas.Result.{IfOk-weaker}
 use Rattle.field_mod.proofs.Table.{two_le}
-use Rattle.leray_conley.specs.Products.{product, transpose}
+use Rattle.leray_conley.specs.Products.{product}
 use Rattle.leray_conley.specs.Tables.{entry}
 use Rattle.leray_conley.proofs.Filling.{map_entries, product_entries, resized}
 use Rattle.leray_conley.proofs.matrix.Matrix.times.Goals as goal

@@ -1,4 +1,4 @@
-use Rattle.std.proofs.Common.{◌∙◌, ◌≡◌, ◌*◌, ℕ, ap, arith}
+use Rattle.std.proofs.Common.{◌∙◌, ◌*◌, ℕ, ap, arith}
 use Rattle.leray_conley.proofs.Filling.{filled_matrix}
 use Rattle.leray_conley.proofs.matrix.Matrix.transposed.Goals as goal
 
