@@ -55,7 +55,7 @@ pivot p (suc n) a =
 all_zero : (p n : ℕ) (x a : ℕ → ℕ) → ((j : ℕ) → j < n → Same p (a j) 0) → Same p (total n (λ j. x j * a j)) 0
 all_zero p n x a h = same_trans (total_same p n (λ j. x j * a j) (λ j. 0) (λ j l. same_trans (same-scale (x j) (h j l)) (same_by p 0 0 _ _ (omega arith)))) (same_by p 0 0 _ _ (omega (arith, total-zero n)))
 
--- one step of elimination: the row 0 has a pivot at k
+-- one step of elimination: the first row has a pivot at k
 eliminated : (p k : ℕ) (a : ℕ → ℕ → ℕ) → ℕ → ℕ → ℕ
 eliminated p k a i j = a 0 k * a (suc i) (skip k j) + (p - 1) * (a 0 (skip k j) * a (suc i) k)
 
