@@ -1,5 +1,5 @@
 //! The outside as the program sees it: traits whose ghost members say what an object tells and counts.
-ghost use Rattle.std.specs.Prelude.{◌≡◌, ◌<◌, ◌≤◌, ◌^◌, List, ℕ, Option, length, ◌++◌, IfOk, OnOk, OnErr, IfSome, Result, MatchResult};
+ghost use Rattle.std.specs.Prelude.{◌≡◌, ◌≤◌, ◌^◌, List, ℕ, Option, length, ◌++◌, IfOk, OnOk, OnErr, IfSome, Result, MatchResult};
 ghost use Rattle.outside.specs.Told.{Told, Writes};
 ghost use Rattle.outside.specs.Causes.{HasCause, NoneFell, CountsStalls, more};
 ghost use Rattle.outside.specs.Disk.{Disk, content, kept, Puts, MayPut, ReadsFrom};
