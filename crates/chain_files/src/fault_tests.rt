@@ -111,7 +111,7 @@ fn texts_that_end_too_early(rt: HostRuntime) {
         "; chain complex",
         "chain",
         "chain complex max dimension",
-        "chain complex max dimension 1",
+        "chain complex max dimension 63",
         "chain complex max dimension 1 dimension 0: 2",
         "chain complex max dimension 1 dimension 0: 2 # 1 = 0",
         "chain complex max dimension 1 dimension 0: 2 dimension",
@@ -206,6 +206,7 @@ fn full(alloc: Global) -> Result<Vec<u8>, Fail> {
 
 #[test]
 fn too_many_terms(rt: HostRuntime) -> Result<(), Fail> {
+    assert_eq!(rt; TERMS, 4_194_304);
     let mut text = full(rt.alloc())?;
     let len = text.len();
     assert_eq!(rt; refusal(rt.alloc(), &text), None);

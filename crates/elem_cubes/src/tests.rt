@@ -129,6 +129,7 @@ fn parts_of_a_cell(rt: HostRuntime) -> Result<(), Fail> {
 
 #[test]
 fn ends_of_the_range(rt: HostRuntime) -> Result<(), Fail> {
+    assert!(rt; LOW == -1_073_741_824 && HIGH == 1_073_741_825);
     assert!(rt; Corner::of(&[]).is_none() && Corner::of(&[0, 0, 0, 0, 0]).is_none());
     assert!(rt; Corner::of(&[LOW - 2]).is_none() && Corner::of(&[HIGH + 2]).is_none());
     let first = corner(&rt, &[LOW - 1]);

@@ -1,5 +1,5 @@
 //! Arithmetic modulo a prime of the table.
-ghost use Rattle.std.specs.Prelude.{◌≡◌, ◌+◌, ◌-◌, ◌*◌, ◌%◌, ◌<◌, ◌≤◌, ◌↔◌, IsSome, pos};
+ghost use Rattle.std.specs.Prelude.{◌≡◌, ◌+◌, ◌-◌, ◌*◌, ◌%◌, ◌<◌, ◌↔◌, IsSome, pos};
 ghost use Rattle.std.specs.Int.{int_rem_euclid};
 ghost use Rattle.field_mod.specs.Moduli.{IsModulus};
 

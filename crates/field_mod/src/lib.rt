@@ -6,7 +6,7 @@ mod laws;
 mod moduli;
 
 pub use field::Field;
-pub use laws::{moduli_are_fields, sums_are_linear, sums_change_order};
+pub use laws::{moduli_are_fields, moduli_are_the_table, sums_are_linear, sums_change_order};
 pub use moduli::MODULI;
 
 #[cfg(test)]

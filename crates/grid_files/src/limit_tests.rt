@@ -23,6 +23,7 @@ fn row_set(alloc: Global, count: u32) -> Result<CubeSet, Fail> {
 
 #[test]
 fn cubes_are_read_up_to_the_limit(rt: HostRuntime) -> Result<(), Fail> {
+    assert_eq!(rt; CUBES, 1_048_576);
     let mut text = row(rt.alloc(), CUBES)?;
     text.extend_from_slice(b" (0) ")?;
     let set = read_set(rt.alloc(), &text, Kind::Any)?;

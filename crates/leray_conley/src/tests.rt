@@ -39,6 +39,15 @@ fn modulo_five(size: u32, entries: Vec<u16>) -> Option<Matrix<5>>
     Some(Matrix::new(size, size, entries))
 }
 
+/// A small matrix modulo 3 of any sizes.
+fn table_modulo_three(rows: u32, columns: u32, entries: Vec<u16>) -> Option<Matrix<3>> {
+    let fits = entries.iter().all(|x| *x < 3);
+    if rows > 100 || columns > 100 || !fits || entries.len() != (rows * columns) as usize {
+        return None;
+    }
+    Some(Matrix::new(rows, columns, entries))
+}
+
 /// The vector that shows that a matrix is singular.
 fn singular_kernel<const P: u16>(found: Result<Matrix<P>, InverseFault>) -> Option<Vec<u16>> {
     match found {
@@ -116,5 +125,18 @@ fn a_nilpotent_matrix_modulo_three(rt: HostRuntime) -> Result<(), Fail> {
     let leray = square.leray(alloc, f)?;
     assert_eq!(rt; leray.image.columns(), 0);
     assert_eq!(rt; leray.kernel.columns(), 2);
+    Ok(())
+}
+
+#[test]
+fn a_matrix_that_is_not_square(rt: HostRuntime) -> Result<(), Fail> {
+    let alloc = rt.alloc();
+    let f = Field::<3>::get().ok_or("no field")?;
+    let entries = vec![in alloc; 1, 0, 2, 0, 1, 1]?;
+    let wide = table_modulo_three(2, 3, entries).ok_or("no matrix")?;
+    assert_eq!(rt; wide.rank(alloc, f)?, 2);
+    let kernel = wide.kernel_vector(alloc, f)?.ok_or("no kernel")?;
+    assert_eq!(rt; kernel.as_slice(), [1, 2, 1].as_slice());
+    assert!(rt; wide.left_vector(alloc, f)?.is_none());
     Ok(())
 }

@@ -5,3 +5,4 @@ pub mod Held
 pub mod Lexing
 pub mod Runs
 pub mod ScanningLemmas
+pub mod Streams

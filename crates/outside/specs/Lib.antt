@@ -1,5 +1,6 @@
 -- The definitions that the contracts of `outside` cite.
 pub mod Told
+pub mod Handing
 pub mod Causes
 pub mod Disk
 pub mod Memory

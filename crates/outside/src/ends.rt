@@ -1,8 +1,9 @@
 //! The outside as the program sees it: traits whose ghost members say what an object tells and counts.
-ghost use Rattle.std.specs.Prelude.{◌≡◌, ◌<◌, ◌≤◌, ◌^◌, List, ℕ, Option, length, ◌++◌, IfOk, OnOk, OnErr, IfSome, Result, MatchResult};
+ghost use Rattle.std.specs.Prelude.{◌≡◌, ◌≤◌, ◌^◌, List, ℕ, Option, length, ◌++◌, IfOk, OnOk, OnErr, IfSome, Result, MatchResult};
 ghost use Rattle.outside.specs.Told.{Told, Writes};
 ghost use Rattle.outside.specs.Causes.{HasCause, NoneFell, CountsStalls, more};
 ghost use Rattle.outside.specs.Disk.{Disk, content, kept, Puts, MayPut, ReadsFrom};
+ghost use Rattle.outside.specs.declared.ends.Failed.{Failed};
 
 use thiserror::Error;
 
@@ -59,13 +60,17 @@ pub trait Sink {
     /// How often writes failed.
     ghost faults: { Self → ℕ };
 
+    /// Which writes may happen: the sink before, the piece, the answer, and the sink after.
+    ghost may_write: { Self → List ℕ → Result ℕ Failed → Self → Type 0 } = { λ _ _ _ _. Unit };
+
     /// Appends a prefix of the piece and answers its length. `Failed` comes only where `faults` rose, and then nothing was
     /// written. A 0 for a piece that is not empty counts as a fault.
     fn write(&mut self, piece: &[u8]) -> Result<usize, Failed>
         ensures bound { IfOk result (λ n. n ≤ length piece.now) }
         ensures bytes { Writes (written self.old) (written self.new) result piece.now }
         ensures cause { HasCause (faults self.old) (faults self.new) result }
-        ensures stalls { CountsStalls (faults self.old) (faults self.new) result piece.now };
+        ensures stalls { CountsStalls (faults self.old) (faults self.new) result piece.now }
+        ensures may_happen { may_write self.old piece.now result self.new };
 }
 
 /// Told when a worker begins a block and when it has ended it. The calls promise nothing and take no memory.

@@ -1,5 +1,9 @@
 //! The real files and streams. They tell no contents, and count each error: the trusted edge.
-ghost use Rattle.std.specs.Prelude.{◌≡◌, ◌≤◌, ◌<◌, None, length, IfOk};
+ghost use Rattle.std.specs.Prelude.{◌≡◌, ◌≤◌, ◌<◌, ◌^◌, None, length, take, nat_lt, if◌then◌else◌, IfOk, OnOk, MatchResult};
+ghost use Rattle.std.specs.Io.KnownBytes.{Appends, Consumes, IsAtEnd, WriteAppends};
+ghost use Rattle.outside.specs.Causes.{HasCause, CountsStalls, more};
+ghost use Rattle.outside.specs.Memory.{counted};
+ghost use Rattle.outside.specs.Told.{Writes};
 
 use crate::{Failed, Files, Sink};
 use std::fs::File;
@@ -39,7 +43,15 @@ impl<R: std::rt::Files + Drop> Files for RealFiles<R> {
 
     ghost given = { λ m. m.given };
 
-    fn read_at(&mut self, name: &str, at: u64, buf: &mut [u8]) -> Result<usize, Failed> {
+    // Each error counts once, and nothing else does.
+    fn read_at(&mut self, name: &str, at: u64, buf: &mut [u8]) -> Result<usize, Failed>
+        requires { at ≤ 2 ^ 30 }
+        ensures bound { IfOk result (λ n. n ≤ length buf.new) }
+        ensures cause { HasCause self.old.read_faults self.new.read_faults result }
+        ensures given { MatchResult result (λ n. self.new.given ≡ more self.old.given n) (λ _. self.new.given ≡ self.old.given) }
+        ensures counts { self.new.read_faults ≡ counted self.old.read_faults result }
+        ensures kept { self.new.write_faults ≡ self.old.write_faults }
+    {
         let gave = match File::open(&self.rt, name) {
             Ok(mut file) => fill(&mut file, at, buf),
             Err(_) => Err(Failed),
@@ -51,7 +63,12 @@ impl<R: std::rt::Files + Drop> Files for RealFiles<R> {
         gave
     }
 
-    fn append(&mut self, name: &str, piece: &[u8], first: bool) -> Result<(), Failed> {
+    fn append(&mut self, name: &str, piece: &[u8], first: bool) -> Result<(), Failed>
+        ensures cause { HasCause self.old.write_faults self.new.write_faults result }
+        ensures given { self.new.given ≡ self.old.given }
+        ensures counts { self.new.write_faults ≡ counted self.old.write_faults result }
+        ensures kept { self.new.read_faults ≡ self.old.read_faults }
+    {
         let opened = if first {
             File::create(&self.rt, name)
         } else {
@@ -78,6 +95,15 @@ fn fill<T: Read + Seek>(file: &mut T, at: u64, buf: &mut [u8]) -> Result<usize, 
     if file.seek(SeekFrom::Start(at)).is_err() {
         return Err(Failed);
     }
+    fill_front(file, buf)
+}
+
+// Fills a front of the buffer with what comes next; less than all of it only at the end.
+fn fill_front<T: Read>(file: &mut T, buf: &mut [u8]) -> Result<usize, Failed>
+    ensures bound { IfOk result (λ n. n ≤ length buf.new) }
+    ensures bytes { IfOk result (λ n. Consumes (T.remaining file.old) (T.remaining file.new) (take n buf.new)) }
+    ensures end { IfOk result (λ n. n < length buf.new → IsAtEnd (T.remaining file.new)) }
+{
     let mut filled = 0;
     while filled < buf.len() {
         match file.read(&mut buf[filled..]) {
@@ -90,16 +116,28 @@ fn fill<T: Read + Seek>(file: &mut T, at: u64, buf: &mut [u8]) -> Result<usize, 
 }
 
 // Writes all of a piece.
-fn pour<T: Write>(file: &mut T, piece: &[u8]) -> Result<(), Failed> {
-    let mut sent = 0;
-    while sent < piece.len() {
-        match file.write(&piece[sent..]) {
-            Ok(0) => return Err(Failed),
-            Ok(n) => sent += n,
-            Err(_) => return Err(Failed),
-        }
+fn pour<T: Write>(file: &mut T, piece: &[u8]) -> Result<(), Failed>
+    ensures { OnOk result (Appends (T.contents file.old) (T.contents file.new) piece.now) }
+{
+    if pour_front(file, piece) < piece.len() {
+        return Err(Failed);
     }
     Ok(())
+}
+
+// Writes a piece as far as that goes, and answers how far.
+fn pour_front<T: Write>(stream: &mut T, piece: &[u8]) -> usize
+    ensures bound { result ≤ length piece.now }
+    ensures bytes { Appends (T.contents stream.old) (T.contents stream.new) (take result piece.now) }
+{
+    let mut sent = 0;
+    while sent < piece.len() {
+        match stream.write(&piece[sent..]) {
+            Ok(n) if n > 0 => sent += n,
+            _ => return sent,
+        }
+    }
+    sent
 }
 
 /// A stream.
@@ -123,16 +161,21 @@ impl<W: Write + Drop> Sink for RealSink<W> {
 
     ghost faults = { λ s. s.faults };
 
-    // After an error the answer is what was written before it, if anything was.
-    fn write(&mut self, piece: &[u8]) -> Result<usize, Failed> {
-        let mut sent = 0;
-        while sent < piece.len() {
-            match self.inner.write(&piece[sent..]) {
-                Ok(n) if n > 0 => sent += n,
-                _ => {
-                    self.faults = self.faults.saturating_add(1);
-                    return if sent > 0 { Ok(sent) } else { Err(Failed) };
-                }
+    // What it answers is appended to the stream, where that tells its bytes. After an error it is what was written before, and
+    // one fault counts.
+    fn write(&mut self, piece: &[u8]) -> Result<usize, Failed>
+        ensures bound { IfOk result (λ n. n ≤ length piece.now) }
+        ensures bytes { Writes None None result piece.now }
+        ensures cause { HasCause self.old.faults self.new.faults result }
+        ensures stalls { CountsStalls self.old.faults self.new.faults result piece.now }
+        ensures counts { MatchResult result (λ n. self.new.faults ≡ (if nat_lt n (length piece.now) then more self.old.faults 1 else self.old.faults)) (λ _. self.new.faults ≡ more self.old.faults 1) }
+        ensures inner { WriteAppends (W.contents self.old.inner) (W.contents self.new.inner) result piece.now }
+    {
+        let sent = pour_front(&mut self.inner, piece);
+        if sent < piece.len() {
+            self.faults = self.faults.saturating_add(1);
+            if sent == 0 {
+                return Err(Failed);
             }
         }
         Ok(sent)

@@ -3,10 +3,11 @@ ghost use Rattle.std.specs.Prelude.{◌≤◌, ◌^◌, length};
 
 use crate::*;
 use std::alloc::Global;
-use std::fs;
 use std::fs::File;
+use std::io::Write;
 use std::process::Abort;
 use std::test::Fail;
+use std::{fs, io};
 
 const TEXT: &[u8] = b"(0 0)";
 
@@ -114,6 +115,36 @@ fn real_files_and_sinks_meet_on_the_disk(rt: HostRuntime) -> Result<(), Fail> {
     refuses(&rt, &mut real, name, 9, ReadFault::Failed);
     refuses(&rt, &mut real, ".", 9, ReadFault::Failed);
     Ok(())
+}
+
+// A stream that takes two bytes at a time, and nothing more after so many.
+#[derive(Drop)]
+struct Narrow {
+    left: usize,
+}
+
+impl Write for Narrow {
+    fn write(&mut self, buf: &[u8]) -> io::Result<usize> {
+        let n = buf.len().min(2).min(self.left);
+        self.left -= n;
+        Ok(n)
+    }
+
+    fn flush(&mut self) -> io::Result<()> {
+        Ok(())
+    }
+}
+
+#[test]
+fn a_stream_that_stalls_takes_a_front(rt: HostRuntime) {
+    let mut sink = RealSink::of(Narrow { left: 7 });
+    assert_eq!(rt; sink.write(b"even"), Ok(4));
+    assert_eq!(rt; sink.write(b"longer"), Ok(3));
+    assert_eq!(rt; sink.write(b"ger"), Err(Failed));
+    assert_eq!(rt; sink.write(b""), Ok(0));
+    let mut sink = RealSink::of(Narrow { left: 7 });
+    assert_eq!(rt; send_all(&mut sink, TEXT), Ok(()));
+    assert_eq!(rt; send_all(&mut sink, TEXT), Err(Failed));
 }
 
 #[test]

@@ -4,6 +4,7 @@ ghost use Rattle.outside.specs.Told.{Gains, GainsFront};
 ghost use Rattle.outside.specs.Causes.{Rose, HasCause, NoneFell, more};
 ghost use Rattle.outside.specs.Disk.{content};
 ghost use Rattle.outside.specs.Decimal.{decimal};
+ghost use Rattle.outside.specs.Handing.{HandsAll};
 ghost use Rattle.outside.specs.declared.whole.ReadFault.TheVariants.{NoMemory};
 
 use crate::{Failed, Files, Sink};
@@ -72,6 +73,7 @@ pub fn send_all<S: Sink>(sink: &mut S, bytes: &[u8]) -> Result<(), Failed>
     ensures sent { OnOk result (Gains (S.written sink.old) (S.written sink.new) bytes.now) }
     ensures front { OnErr result (GainsFront (S.written sink.old) (S.written sink.new) bytes.now) }
     ensures cause { HasCause (S.faults sink.old) (S.faults sink.new) result }
+    ensures hands { HandsAll S.may_write sink.old bytes.now result sink.new }
 {
     let mut sent = 0;
     while sent < bytes.len() {

@@ -1,5 +1,5 @@
 //! Why a run did not print its report, and the line that it prints then.
-ghost use Rattle.std.specs.Prelude.{◌≡◌, ◌++◌, IfOk, OnOk, decimal};
+ghost use Rattle.std.specs.Prelude.{◌≡◌, ◌++◌, IfOk, OnOk};
 ghost use Rattle.report.specs.FaultText.{fault_text};
 
 use crate::{Cause, LimitName, Name};

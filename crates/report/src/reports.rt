@@ -1,5 +1,5 @@
 //! Reports, and their texts.
-ghost use Rattle.std.specs.Prelude.{◌≡◌, ◌≤◌, IfOk};
+ghost use Rattle.std.specs.Prelude.{◌≡◌, IfOk};
 ghost use Rattle.report.specs.ReportText.{report_text, HasText};
 
 use crate::lines::put_groups;

@@ -62,6 +62,8 @@ impl Sink for MemSink {
 
     ghost faults = { λ s. s.faults };
 
+    ghost may_write = { λ before piece result now. TakesMost before result now piece × CountsWrite before result now };
+
     fn write(&mut self, piece: &[u8]) -> Result<usize, Failed>
         ensures bound { IfOk result (λ n. n ≤ length piece.now) }
         ensures bytes { Writes (Some (written_to self.old)) (Some (written_to self.new)) result piece.now }
