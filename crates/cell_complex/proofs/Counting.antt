@@ -18,10 +18,10 @@ use Rattle.elem_cubes.specs.Laws.{cell_at}
 use Rattle.elem_cubes.proofs.Conjunctions.{all_at}
 use Rattle.grid_files.specs.Sorted.{has}
 use Rattle.grid_files.specs.Sets.{Members, IsCubeSet, is_member}
-use Rattle.grid_files.specs.Closures.{cells_of}
+use Rattle.grid_files.specs.Closures.{cells_of, is_cell_of}
 use Rattle.grid_files.proofs.Merging.{has-union}
 use Rattle.grid_files.proofs.Covering.{cells_are_faces}
-use Rattle.cell_complex.specs.RelativeComplex.{is_cell_of, is_relative}
+use Rattle.cell_complex.specs.RelativeComplex.{is_relative}
 use Rattle.cell_complex.specs.Sorted.{IsSortedCells, without}
 use Rattle.cell_complex.specs.Numbering.{IsListing}
 use Rattle.cell_complex.specs.Gathering.{cell_count}

@@ -5,7 +5,8 @@ use Rattle.elem_cubes.specs.Cells.{Factor}
 use Rattle.chains.specs.Homology.{IsBoundaryOperator, IsChain, IsCycle, IsNull, IsBasis}
 use Rattle.chains.specs.Terms.{coefficient}
 use Rattle.chains.specs.ChainComplex.{ChainComplex, IsComplex, IsBasisOf, system}
-use Rattle.cell_complex.specs.RelativeComplex.{is_cell_of, is_relative, complex_on, relative_complex, IsClosed, IsClosedList, SquaresToZero}
+use Rattle.grid_files.specs.Closures.{is_cell_of}
+use Rattle.cell_complex.specs.RelativeComplex.{is_relative, complex_on, relative_complex, IsClosed, IsClosedList, SquaresToZero}
 use Rattle.cell_complex.specs.Numbering.{IsRelativeComplex, by_cell, by_number, cell_coefficient, cell_terms}
 
 -- the cells of a set are closed under faces, the cells of a list that is closed are those of the list, and to join the

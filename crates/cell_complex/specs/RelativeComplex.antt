@@ -2,16 +2,13 @@
 -- chain, which is a function that gives each cell its coefficient. (Kaczynski, Mischaikow, Mrozek: Computational Homology,
 -- Springer 2004, sections 2.2 and 9.1)
 use Rattle.std.specs.Prelude.{◌≡◌, ℕ, Bool, true, not, ◌&&◌, List, if◌then◌else◌}
-use Rattle.std.specs.List.{list_any, Contains}
+use Rattle.std.specs.List.{Contains}
 use Rattle.field_mod.specs.Modular.{Same}
 use Rattle.elem_cubes.specs.Cells.{Factor, dimension_of}
-use Rattle.elem_cubes.specs.Faces.{IsFace, is_face}
+use Rattle.elem_cubes.specs.Faces.{IsFace}
 use Rattle.elem_cubes.specs.Boundary.{boundary_at}
 use Rattle.chains.specs.Homology.{System}
-
--- q is one of the cells of the set x: a face of some member
-abbrev pub is_cell_of : List (List Factor) → List Factor → Bool
-is_cell_of x q = list_any (λ s. is_face s q) x
+use Rattle.grid_files.specs.Closures.{is_cell_of}
 
 -- q is a relative cell of the pair of x and a: a cell of x that is no cell of a
 abbrev pub is_relative : List (List Factor) → List (List Factor) → List Factor → Bool
