@@ -13,7 +13,7 @@ loop-degree-preserved g c = (
 )
 
 pub cycles_in-requires : goal.cycles_in-requires
-cycles_in-requires g c = λ j l. c.requires c.loop-degree.degree j (omega (arith, c.loop-degree-test.true)) l
+cycles_in-requires g c = ((omega arith), λ j l. c.requires c.loop-degree.degree j (omega (arith, c.loop-degree-test.true)) l)
 
 pub returns : goal.returns
 returns g c = elim c.loop-degree-test.branch [

@@ -12,7 +12,7 @@ returns-in_err-sets-clause-fault g c =
     let named = c.args.named.now in
     let files = c.args.files.now in
     let later = c.load.new.files in
-    let p = err_from_is_err_and c.from_residual-in_err-sets.result c.from_residual-in_err-sets.ensures.1 in
+    let p = err_from_is_err_and c.from_residual.result c.from_residual.ensures.1 in
     rw (p.1, p.2) (inl (load_rests (named.x ∷ named.y ∷ []) (AreOperandsIn named) of_two_sets (g.F.Files.holds files) (g.F.Files.read_faults files) (g.F.Files.read_faults later) (g.F.Files.given files) (g.F.Files.given later) c.in_err-sets.field-0.0 c.in_err-sets.ensures.fault))
 
 pub returns-clause-report : goal.returns-clause-report

@@ -13,7 +13,7 @@ returns-in_err-set-clause-fault g c =
     let x = c.args.x.now in
     let files = c.args.files.now in
     let later = c.load_set.new.files in
-    let p = err_from_is_err_and c.from_residual-in_err-set.result c.from_residual-in_err-set.ensures.1 in
+    let p = err_from_is_err_and c.from_residual.result c.from_residual.ensures.1 in
     rw (p.1, p.2) (inl (load_rests (x ∷ []) (IsSetIn Any x) of_set (g.F.Files.holds files) (g.F.Files.read_faults files) (g.F.Files.read_faults later) (g.F.Files.given files) (g.F.Files.given later) c.in_err-set.field-0.0 c.in_err-set.ensures.fault))
 
 pub returns-clause-report : goal.returns-clause-report

@@ -7,7 +7,7 @@ returns-in_err-bytes-clause-fault g c =
     let job = c.args.job.now in
     let files = c.args.files.now in
     let later = c.load_bytes.new.files in
-    let p = err_from_is_err_and c.from_residual-in_err-bytes.result c.from_residual-in_err-bytes.ensures.1 in
+    let p = err_from_is_err_and c.from_residual.result c.from_residual.ensures.1 in
     rw (p.1, p.2) (chain_read_rests job (g.F.Files.holds files) (g.F.Files.read_faults files) (g.F.Files.read_faults later) (g.F.Files.given files) (g.F.Files.given later) c.in_err-bytes.field-0.0 c.in_err-bytes.ensures.fault)
 
 pub returns-clause-report : goal.returns-clause-report
