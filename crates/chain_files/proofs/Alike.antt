@@ -12,10 +12,10 @@ use Rattle.chain_files.specs.Content.{Boundary, Content, terms_of}
 use Rattle.chain_files.specs.Complexes.{FileComplex, IsFileComplex, listed}
 use Rattle.chain_files.specs.Laws.{BasesAreOfTheFile}
 
-record Alike (p : ℕ) (K L : System ℕ) : Type 0 where
-  on : (g : ℕ) → K.on g ≡ L.on g
-  degree : (g : ℕ) → K.degree g ≡ L.degree g
-  boundary : (c : ℕ → ℕ) (g : ℕ) → Same p (K.boundary c g) (L.boundary c g)
+pub record Alike (p : ℕ) (K L : System ℕ) : Type 0 where
+  pub on : (g : ℕ) → K.on g ≡ L.on g
+  pub degree : (g : ℕ) → K.degree g ≡ L.degree g
+  pub boundary : (c : ℕ → ℕ) (g : ℕ) → Same p (K.boundary c g) (L.boundary c g)
 
 turned : (p : ℕ) (K L : System ℕ) → Alike p K L → Alike p L K
 turned p K L a = record { on = λ g. sym (a.on g); degree = λ g. sym (a.degree g); boundary = λ c g. same_sym (a.boundary c g) }
@@ -49,10 +49,10 @@ basis_alike p K L a k n zs h = record {
   spanning = λ z cycle. spanned_alike p K L a k n zs z (h.spanning z (cycle_alike p L K (turned p K L a) k z cycle));
 }
 
-reduced : (p a b : ℕ) → a ≡ b % p → Same p a b
+pub reduced : (p a b : ℕ) → a ≡ b % p → Same p a b
 reduced p a b e = same_by p (b / p) 0 a b (omega (arith, e))
 
-file_alike : (p : ℕ) (content : Content) (file : FileComplex) → IsFileComplex p content file → Alike p (system file.complex) (system (listed content))
+pub file_alike : (p : ℕ) (content : Content) (file : FileComplex) → IsFileComplex p content file → Alike p (system file.complex) (system (listed content))
 file_alike p content file f =
     let bs = file.complex.boundaries in
     let ts = terms_of content.boundaries in

@@ -10,3 +10,5 @@ pub mod Counting
 pub mod Files
 pub mod Grading
 pub mod Alike
+pub mod Squares
+pub mod Numbering

@@ -1,5 +1,5 @@
 -- How a complex is made of what a chain file says.
-use Rattle.std.specs.Prelude.{◌≡◌, ◌<◌, ◌+◌, ◌%◌, ℕ, List, [], length, slice_index, slice_index_or}
+use Rattle.std.specs.Prelude.{◌≡◌, ◌<◌, ◌+◌, ◌%◌, ℕ, List, [], length, take, sum, slice_index, slice_index_or}
 use Rattle.chains.specs.Terms.{coefficient}
 use Rattle.chains.specs.ChainComplex.{IsBadDegree}
 use Rattle.chains.specs.declared.complex.ComplexFault.{ComplexFault}
@@ -19,6 +19,11 @@ pub record AreChains (p : ℕ) (boundaries : List Boundary) (chains : List (List
 pub record AreCounts (degrees : List ℕ) (top : ℕ) (counts : List ℕ) : Type 0 where
   pub long : length counts ≡ top + 1
   pub each : (k : ℕ) → k < length counts → slice_index counts k ≡ count_in degrees k
+
+-- at each of the first n places the sum of the numbers before it
+pub record AreSumsBefore (numbers : List ℕ) (n : ℕ) (sums : List ℕ) : Type 0 where
+  pub long : length sums ≡ n
+  pub each : (k : ℕ) → k < n → slice_index sums k ≡ sum (take k numbers)
 
 -- each term of a boundary names a generator of one degree less
 abbrev pub IsGraded : Content → Type 0

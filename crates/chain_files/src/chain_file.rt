@@ -3,17 +3,17 @@ ghost use Rattle.std.specs.Prelude.{◌≡◌, ◌≤◌, IfOk, IfErr};
 ghost use Rattle.chains.specs.ChainComplex.{IsComplex};
 ghost use Rattle.chain_files.specs.Content.{Content};
 ghost use Rattle.chain_files.specs.ChainFile.{HasValue};
-ghost use Rattle.chain_files.specs.Complexes.{count_in, AreByDegree, IsFileComplex};
+ghost use Rattle.chain_files.specs.Complexes.{count_in, AreByDegree, AreCountsBelow, IsFileComplex};
 ghost use Rattle.chain_files.specs.Faults.{IsFaultOf};
 ghost use Rattle.chain_files.specs.Making.{IsGraded, IsComplexFault};
 
 use crate::fault::ChainFault;
 use crate::gathered::Gathered;
-use crate::making::{chains_of, complex_fault, counts_of};
+use crate::making::{chains_of, complex_fault, counts_of, sums_before};
 use crate::text::gather;
 use chains::Complex;
 use field_mod::Field;
-use std::alloc::Global;
+use std::alloc::{AllocError, Global};
 use std::marker::Model;
 
 /// A chain complex over the numbers modulo `P` as a chain file gives it, with the greatest degree that the file names. Its
@@ -51,6 +51,16 @@ impl<const P: u16> ChainFile<P> {
         ensures { result ≡ count_in self.now.complex.degrees degree }
     {
         self.counts[degree as usize]
+    }
+
+    /// For each degree up to the greatest, how many generators have a lower one: that many generators of the complex come before
+    /// those of the degree.
+    pub fn counts_below(&self, alloc: Global) -> Result<Vec<u32>, AllocError>
+        ensures { IfOk result (λ counts. AreCountsBelow self.now.complex.degrees self.now.top counts.items) }
+    {
+        // Its clauses say that there are few generators.
+        let _len = self.complex.len();
+        sums_before(alloc, &self.counts)
     }
 
     /// The complex. It takes no memory.

@@ -15,7 +15,10 @@ mod words;
 
 pub use chain_file::{ChainFile, read_complex};
 pub use fault::{ChainCause, ChainFault, GENERATORS, MAX_DEGREE, TERMS};
-pub use laws::{bases_are_of_the_file, texts_have_one_outcome};
+pub use laws::{
+    bases_are_of_the_file, file_complexes_are_complexes, texts_have_one_outcome,
+    values_have_one_outcome,
+};
 
 #[cfg(test)]
 mod fault_tests;

@@ -1,7 +1,7 @@
 //! What a chain file says, as the parts of a complex.
-ghost use Rattle.std.specs.Prelude.{◌≡◌, ◌<◌, ◌≤◌, ◌^◌, length, IfOk};
+ghost use Rattle.std.specs.Prelude.{◌≡◌, ◌<◌, ◌≤◌, ◌^◌, length, sum, IfOk};
 ghost use Rattle.chain_files.specs.Complexes.{count_in, number_in_degree};
-ghost use Rattle.chain_files.specs.Making.{AreChains, AreCounts, IsWithin, in_words};
+ghost use Rattle.chain_files.specs.Making.{AreChains, AreCounts, AreSumsBefore, IsWithin, in_words};
 ghost use Rattle.chain_files.specs.declared.fault.TheConstants.{GENERATORS};
 
 use crate::entry::Entry;
@@ -38,6 +38,20 @@ pub(crate) fn counts_of(alloc: Global, top: u8, degrees: &[u8]) -> Result<Vec<u3
         }
     }
     Ok(counts)
+}
+
+/// At each place the sum of the numbers before it.
+pub(crate) fn sums_before(alloc: Global, numbers: &[u32]) -> Result<Vec<u32>, AllocError>
+    requires { sum numbers.now < 2 ^ 32 }
+    ensures { IfOk result (λ sums. AreSumsBefore numbers.now (length numbers.now) sums.items) }
+{
+    let mut sums = Vec::with_capacity(alloc, numbers.len())?;
+    let mut before = 0;
+    for number in numbers {
+        sums.push(before)?;
+        before += *number;
+    }
+    Ok(sums)
 }
 
 // How many of the degrees are this one.

@@ -15,8 +15,7 @@ use Rattle.chomp.specs.declared.status.Status.{Status}
 use Rattle.chomp.specs.declared.status.Status.TheVariants as statuses
 use Rattle.chomp.specs.declared.command.Command.{Command}
 use Rattle.chomp.specs.declared.command.Command.TheVariants as commands
-use Rattle.chomp.specs.declared.command.Input.{Input}
-use Rattle.chomp.specs.declared.command.Input.TheVariants as inputs
+use Rattle.chomp.specs.Inputs.{Input, of_pair, of_two_sets, of_full_cubes, of_set, of_chain_file}
 use Rattle.chomp.specs.Statuses.{status_of}
 use Rattle.std.specs.Option.{option_and_then}
 use Rattle.elem_cubes.specs.Cells.{Factor}
@@ -27,10 +26,10 @@ use Rattle.chomp.specs.declared.tool.Tool.{Tool}
 use Rattle.chomp.specs.Combining.{combined_of}
 use Rattle.chomp.specs.Forms.{tool_named, form_read}
 use Rattle.chomp.specs.Words.{formed, job_of, command_with, command_of, names_of, shown_of}
-use Rattle.chomp.specs.Refusal.{reading, IsInputOf, most_cubes, most_cells, greatest_end, within_cells, within_cubes, as_input, within_limits, IsJudged}
+use Rattle.chomp.specs.Refusal.{reading, IsInputOf, most_cubes, most_cells, greatest_lower, within_cells, within_cubes, as_input, within_limits, IsJudged}
 use Rattle.chomp.specs.declared.homcubes.Given.{Given}
-use Rattle.chomp.specs.Right.{IsRight, IsPairRightButForCycles, IsRightAsShown}
-use Rattle.chomp.specs.Saying.{LoadRestsOn, RestsOn, IsAnswer, ReadFailed, Answers}
+use Rattle.chomp.specs.Right.{IsRight, IsRightButForCycles, IsRightAsShown}
+use Rattle.chomp.specs.Saying.{LoadRestsOn, IsReportOf, ReportRestsOn, RestsOn, IsAnswer, ReadFailed, Answers}
 use Rattle.chomp.proofs.Judging.{judged_once}
 
 by_refusal : {A : Type 0} (r : Result A Fault) (read wrote : Type 0) (fault : Fault) → r ≡ Err fault → Answers r read wrote (status_of fault)
@@ -58,7 +57,7 @@ module _ (words : List (List ℕ)) (before now : List ℕ → ℕ) (had has : �
     at_loading command asked (NotAForm tool) r = absurd r
     at_loading command asked (CannotRead name) r = failed_read command name asked r.0 r.1
     at_loading command asked (BadText name place cause) r = refused (BadText name place cause) (inr (command, sym asked, inl r.1))
-    at_loading command asked (NotComplex name degree generator value at) r = absurd r
+    at_loading command asked (NotComplex name degree generator value at) r = refused (NotComplex name degree generator value at) (inr (command, sym asked, inl r.1))
     at_loading command asked (Dimension name found earlier) r = refused (Dimension name found earlier) (inr (command, sym asked, inl r.1))
     at_loading command asked (Limit FileBytes number) r = refused (Limit FileBytes number) (inr (command, sym asked, inl r.1))
     at_loading command asked (Limit count number) r = refused (Limit count number) (inr (command, sym asked, inl r))
@@ -93,24 +92,19 @@ module _ (words : List (List ℕ)) (before now : List ℕ → ℕ) (had has : �
       ended input (inl e) = inl e
       ended input (inr e) = inr (inr (inl (e, rose e)))
 
-  -- a fault of the loading, and one of a limit, is one of the run
-  pub rests_on_load : (disk : Option Disk) (command : Command) (fault : Fault) → command_of words ≡ Ok command → LoadRestsOn (names_of command) (IsInputOf command) disk before now had has fault → RestsOn words disk before now had has fault
-  rests_on_load disk command fault asked r = inr (inl (command, asked, inl r))
-
-  pub rests_on_limit : (disk : Option Disk) (command : Command) (input : Input) (fault : Fault) → command_of words ≡ Ok command → IfSome disk (λ disk. IsInputOf command (reading disk) (Ok input))
-      → (within_limits input ≡ Err fault) ⊎ (fault ≡ OutOfMemory) → RestsOn words disk before now had has fault
-  rests_on_limit disk command input fault asked told (inl e) = inr (inl (command, asked, inr (input, told, e)))
-  rests_on_limit disk command input fault asked told (inr e) = inr (inr e)
+  -- a fault of the command is one of the run
+  pub rests_on_report : (disk : Option Disk) (command : Command) (fault : Fault) → command_of words ≡ Ok command → ReportRestsOn command disk before now had has fault → RestsOn words disk before now had has fault
+  rests_on_report disk command fault asked r = inr (inl (command, asked, r))
 
 -- the report of a command as it is printed without cycles
 abbrev without_cycles : Command → Shown
 without_cycles command = record { modulus = (shown_of command).modulus; cycles = false }
 
 -- a report that lacks only its cycles answers, where they are not printed
-pub answers : (words : List (List ℕ)) (disk : Option Disk) (command : Command) (input : Input) (report : Report) (text : List ℕ) → command_of words ≡ Ok command
-    → IfSome disk (λ disk. IsInputOf command (reading disk) (Ok input)) → within_limits input ≡ Ok input → IsRightAsShown (shown_of command).cycles input report → text ≡ report_text report (shown_of command) → IsAnswer words disk text
-answers words disk command input report text asked told within right is =
-    let w = as_shown input (shown_of command).cycles refl right in
+pub answers : (words : List (List ℕ)) (disk : Option Disk) (command : Command) (report : Report) (text : List ℕ) → command_of words ≡ Ok command
+    → IsReportOf command disk report → text ≡ report_text report (shown_of command) → IsAnswer words disk text
+answers words disk command report text asked (input, told, within, right) is =
+    let w = as_shown (shown_of command).cycles refl right in
     (command, asked, input, judged disk told, w.0, w.1, w.2)
   where
     judged : (disk : Option Disk) → IfSome disk (λ disk. IsInputOf command (reading disk) (Ok input)) → IfSome disk (λ disk. IsJudged words (reading disk) (Ok input))
@@ -118,20 +112,23 @@ answers words disk command input report text asked told within right is =
     judged (Some held) told = (command, sym asked, (input, told, sym within))
 
     -- what is not asked to show cycles says the same with them
-    uncycled : (given : Given) (report : Report) → IsPairRightButForCycles given report → text ≡ report_text report (without_cycles command) → (R : Report) × IsRight (inputs.Homcubes given) R × (text ≡ report_text R (without_cycles command))
-    uncycled given (Pair pair) (cycles, right) is = (Pair (record { dimensions = pair.dimensions; cycles = cycles }), right, is)
-    uncycled given (Chain dimensions cycles) right is = absurd right
-    uncycled given (Set set) right is = absurd right
+    uncycled : (input : Input) (report : Report) → IsRightButForCycles input report → text ≡ report_text report (without_cycles command) → (R : Report) × IsRight input R × (text ≡ report_text R (without_cycles command))
+    uncycled (of_pair given) (Pair pair) (cycles, right) is = (Pair (record { dimensions = pair.dimensions; cycles = cycles }), right, is)
+    uncycled (of_pair given) (Chain dimensions cycles) right is = absurd right
+    uncycled (of_pair given) (Set set) right is = absurd right
+    uncycled (of_chain_file p content) (Chain dimensions cycles) (found, right) is = (Chain dimensions found, right, is)
+    uncycled (of_chain_file p content) (Pair pair) right is = absurd right
+    uncycled (of_chain_file p content) (Set set) right is = absurd right
+    uncycled (of_two_sets sets) report right is = (report, right, is)
+    uncycled (of_full_cubes set) report right is = (report, right, is)
+    uncycled (of_set set) report right is = (report, right, is)
 
-    as_shown : (input : Input) (cycles : Bool) → cycles ≡ (shown_of command).cycles → IsRightAsShown cycles input report → (R : Report) × IsRight input R × (text ≡ report_text R (shown_of command))
-    as_shown (inputs.Homcubes given) true e right = (report, right, is)
-    as_shown (inputs.Homcubes given) false e right =
+    as_shown : (cycles : Bool) → cycles ≡ (shown_of command).cycles → IsRightAsShown cycles input report → (R : Report) × IsRight input R × (text ≡ report_text R (shown_of command))
+    as_shown true e right = (report, right, is)
+    as_shown false e right =
         let same : shown_of command ≡ without_cycles command = λ j. record { modulus = (shown_of command).modulus; cycles = sym e j } in
-        let w = uncycled given report right (is ∙ ap (report_text report) same) in
+        let w = uncycled input report right (is ∙ ap (report_text report) same) in
         (w.0, w.1, w.2 ∙ sym (ap (report_text w.0) same))
-    as_shown (inputs.Combine sets) cycles e right = (report, right, is)
-    as_shown (inputs.Cubnbhd set) cycles e right = (report, right, is)
-    as_shown (inputs.Cubcells set) cycles e right = (report, right, is)
 
 abbrev pub failed : (B : Type 0) → Fault → Result B Fault
 failed B fault = Err fault
@@ -180,15 +177,16 @@ pair_so (Err fault) e = let k : fault ≡ CannotWriteOut = cc in ap (λ f. Err f
 cubes_so : (cells : List (List Factor)) (input : Input) → within_cubes cells input ≡ Err CannotWriteOut → ⊥
 cubes_so cells input e = limit_so (nat_lt most_cubes (length cells)) Cubes most_cubes input e
 
-range_so : (b : Bool) (cells : List (List Factor)) (input : Input) → cond b (within_cubes cells input) (Err (Limit Coordinates greatest_end)) ≡ Err CannotWriteOut → ⊥
+range_so : (b : Bool) (cells : List (List Factor)) (input : Input) → cond b (within_cubes cells input) (Err (Limit Coordinates greatest_lower)) ≡ Err CannotWriteOut → ⊥
 range_so true cells input e = cubes_so cells input e
 range_so false cells input e = cc
 
 limits_so : (input : Input) → within_limits input ≡ Err CannotWriteOut → ⊥
-limits_so (inputs.Homcubes given) e = limit_so (nat_lt most_cells (cell_count (given.x.cells ++ given.a.cells))) Cells most_cells given (pair_so (within_cells given) e)
-limits_so (inputs.Combine sets) e = cubes_so (combined_of sets.combination sets.x.cells sets.y.cells) (inputs.Combine sets) e
-limits_so (inputs.Cubnbhd set) e = range_so (are_in_range (neighbours_of set.cells)) (neighbours_of set.cells) (inputs.Cubnbhd set) e
-limits_so (inputs.Cubcells set) e = cubes_so (cells_of set.cells) (inputs.Cubcells set) e
+limits_so (of_pair given) e = limit_so (nat_lt most_cells (cell_count (given.x.cells ++ given.a.cells))) Cells most_cells given (pair_so (within_cells given) e)
+limits_so (of_two_sets sets) e = cubes_so (combined_of sets.combination sets.x.cells sets.y.cells) (of_two_sets sets) e
+limits_so (of_full_cubes set) e = range_so (are_in_range (neighbours_of set.cells)) (neighbours_of set.cells) (of_full_cubes set) e
+limits_so (of_set set) e = cubes_so (cells_of set.cells) (of_set set) e
+limits_so (of_chain_file p content) e = cc
 
 pub never_write : (words : List (List ℕ)) (disk : Option Disk) (before now : List ℕ → ℕ) (had has : ℕ) (fault said : Fault) (status : Status) → RestsOn words disk before now had has fault
     → (said ≡ fault) ⊎ (said ≡ OutOfMemory) → status ≡ status_of said → status ≡ statuses.Write → ⊥

@@ -18,6 +18,7 @@ use Rattle.cell_complex.specs.RelativeComplex.{relative_complex}
 use Rattle.cell_complex.specs.Sorted.{IsSortedCells}
 use Rattle.cell_complex.specs.Numbering.{IsRelativeComplex, cell_coefficient, cell_terms}
 use Rattle.cell_complex.proofs.ByCell.{bases_are_by_number_or_cell}
+use Rattle.chomp.specs.Counting.{IsNormalBasis}
 use Rattle.chomp.specs.Right.{IsPrintedCycle, IsRightInDegree}
 use Rattle.chomp.proofs.Multiples.{AreMultiples, multiples_are_basis}
 use Rattle.homology_basis.specs.Bases.{BeginsWithOne as Begins}
@@ -50,13 +51,16 @@ length-cell_terms cells (z ∷ zs) = ap (λ m. suc m) (length-cell_terms cells z
 -- ---- a basis by numbers, over the cells
 
 module _ (p : ℕ) (x a cells : List (List Factor)) (K : ChainComplex) (is_modulus : IsModulus p) (relative : IsRelativeComplex p x a cells K) (sorted : IsSortedCells cells) (k : ℕ) (zs : List (List (ℕ × ℕ)))
-    (normal : (i : ℕ) → i < length zs → IsNormalWithin p 0 (length cells) (get_or zs i [])) (first : (i : ℕ) → i < length zs → Begins (get_or zs i [])) (basis : IsBasisOf p K k zs) where
+    (h : IsNormalBasis p K k zs) where
+  normal : (i : ℕ) → i < length zs → IsNormalWithin p 0 (length cells) (get_or zs i [])
+  normal i l = subst (λ (n : ℕ). IsNormalWithin p 0 n (get_or zs i [])) relative.complex.count (h.normal i l)
+
   abbrev over_cells : List (List (List Factor × ℕ))
   over_cells = map (cell_terms cells) zs
 
   by_cell : IsBasis p (relative_complex p x a) k (length zs) (λ i. cell_coefficient (cell_terms cells (get_or zs i [])))
   by_cell = ((bases_are_by_number_or_cell p x a cells K (omega (arith, two_le p is_modulus)) relative).basis_of_terms k zs
-      (λ i g l h. coefficient-above p 0 (length cells) (get_or zs i []) g (normal i l) h)).0 basis
+      (λ i g l past. coefficient-above p 0 (length cells) (get_or zs i []) g (normal i l) past)).0 h.basis
 
   as_printed : IsBasis p (relative_complex p x a) k (length over_cells) (λ i. cell_coefficient (get_or over_cells i []))
   as_printed =
@@ -67,7 +71,7 @@ module _ (p : ℕ) (x a cells : List (List Factor)) (K : ChainComplex) (is_modul
   each_printed : (i : ℕ) → i < length over_cells → IsPrintedCycle p (get_or over_cells i [])
   each_printed i l =
       let inside : i < length zs = omega (arith, l, length-cell_terms cells zs) in
-      subst (λ (ts : List (List Factor × ℕ)). IsPrintedCycle p ts) (sym (get_or-cell_terms cells zs i)) (printed p cells sorted.sorted (get_or zs i []) (normal i inside) (first i inside))
+      subst (λ (ts : List (List Factor × ℕ)). IsPrintedCycle p ts) (sym (get_or-cell_terms cells zs i)) (printed p cells sorted.sorted (get_or zs i []) (normal i inside) (h.first i inside))
 
   pub right_over_cells : IsRightInDegree p x a k (length zs) (map (cell_terms cells) zs)
   right_over_cells = record { number = sym (length-cell_terms cells zs); basis = as_printed; printed = each_printed }
@@ -123,19 +127,16 @@ module _ (p : ℕ) (K : ChainComplex) (is_modulus : IsModulus p) (is_complex : I
   numbered = subst (λ (n : ℕ). IsBasis p (system K) k n (nth_chain lists)) (sym (length-tabulated m (λ i. (pick i).list)))
       (multiples_are_basis p k m (system K) zs (nth_chain lists) (is_boundary_operator p K is_complex) multiples basis)
 
-  -- ---- over the cells
+  inside : (i : ℕ) → i < length lists → i < m
+  inside i l = omega (arith, l, length-tabulated m (λ i. (pick i).list))
 
-  module _ (x a cells : List (List Factor)) (relative : IsRelativeComplex p x a cells K) (sorted : IsSortedCells cells) where
-    abbrev pub cycles : List (List (List Factor × ℕ))
-    cycles = map (cell_terms cells) lists
+  -- so many lists are a basis in normal form
+  pub counted : m ≡ length lists
+  counted = sym (length-tabulated m (λ i. (pick i).list))
 
-    inside : (i : ℕ) → i < length lists → i < m
-    inside i l = omega (arith, l, length-tabulated m (λ i. (pick i).list))
-
-    pub right_in_degree : IsRightInDegree p x a k m cycles
-    right_in_degree = subst (λ (n : ℕ). IsRightInDegree p x a k n cycles) (length-tabulated m (λ i. (pick i).list))
-        (right_over_cells p x a cells K is_modulus relative sorted k lists
-        (λ i l. subst (λ (ts : List (ℕ × ℕ)). IsNormalWithin p 0 (length cells) ts) (sym (lists_at i (inside i l)))
-        (subst (λ (n : ℕ). IsNormalWithin p 0 n (pick i).list) relative.complex.count ((pick i).is_pick (inside i l)).normal))
-        (λ i l. subst (λ (ts : List (ℕ × ℕ)). Begins ts) (sym (lists_at i (inside i l))) ((pick i).is_pick (inside i l)).begins)
-        numbered)
+  pub normal_basis : IsNormalBasis p K k lists
+  normal_basis = record {
+    normal = λ i l. subst (λ (ts : List (ℕ × ℕ)). IsNormalWithin p 0 (length K.boundaries) ts) (sym (lists_at i (inside i l))) ((pick i).is_pick (inside i l)).normal;
+    first = λ i l. subst (λ (ts : List (ℕ × ℕ)). Begins ts) (sym (lists_at i (inside i l))) ((pick i).is_pick (inside i l)).begins;
+    basis = numbered;
+  }

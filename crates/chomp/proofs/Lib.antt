@@ -2,12 +2,15 @@ pub mod Multiples
 pub mod Printing
 pub mod Cycles
 pub mod Counting
+pub mod Normal
+pub mod InFile
 pub mod RightPairs
 pub mod RightBases
 pub mod Judging
 pub mod Passing
 pub mod PassingSets
 pub mod SetReports
+pub mod Reporting
 pub mod Answering
 pub mod Tables
 pub mod Reading

@@ -11,9 +11,8 @@ use Rattle.report.specs.declared.fault.Fault.TheVariants.{NoTool, NotAForm, Cann
 use Rattle.report.specs.declared.limit_name.LimitName.TheVariants.{FileBytes}
 use Rattle.chomp.specs.declared.homcubes.Job.{Job}
 use Rattle.chomp.specs.declared.homcubes.Given.{Given}
-use Rattle.chomp.specs.declared.command.Command.TheVariants.{Homcubes}
-use Rattle.chomp.specs.Words.{and_subset, names_of}
-use Rattle.chomp.specs.Refusal.{Reading, reading, but_for, file_bytes, told_cause, text_fault, at_place, IsSetOf, IsSetIn, IsSubsetIn, second_name, pair_of, IsPairIn, IsInputOf}
+use Rattle.chomp.specs.Words.{and_subset}
+use Rattle.chomp.specs.Refusal.{Reading, reading, but_for, file_bytes, told_cause, text_fault, at_place, IsSetOf, IsSetIn, IsSubsetIn, second_name, pair_of, IsPairIn}
 use Rattle.chomp.specs.Saying.{LoadRestsOn, IsDue}
 
 pub some_map : {A : Type 0} (P Q : A → Type 0) (o : Option A) → ((x : A) → P x → Q x) → IfSome o P → IfSome o Q
@@ -53,7 +52,7 @@ module _ {A B : Type 0} (names all : List (List ℕ)) (load : Reading → Result
   rests_pass (NotAForm tool) r = r
   rests_pass (CannotRead name) r = (passes.named name r.0, rose name r.1, unread_so name r.2)
   rests_pass (BadText name place cause) r = (passes.named name r.0, refused_so (BadText name place cause) r.1)
-  rests_pass (NotComplex name degree generator value at) r = r
+  rests_pass (NotComplex name degree generator value at) r = (passes.named name r.0, refused_so (NotComplex name degree generator value at) r.1)
   rests_pass (Dimension name found earlier) r = (passes.named name r.0, refused_so (Dimension name found earlier) r.1)
   rests_pass (Limit FileBytes number) r = (bytes (number + 1) r.0, refused_so (Limit FileBytes number) r.1)
   rests_pass (Limit count number) r = refused_so (Limit count number) r
@@ -139,7 +138,7 @@ module _ (job : Job) (disk : Option Disk) where
   dimensions_rest x a before now had has fault fx fa (inr e) = subst (λ (f : Fault). LoadRestsOn all_names (IsPairIn job) disk before now had has f) (sym e) tt
   dimensions_rest x a before now had has fault fx fa (inl e) =
       let d : Fault = Dimension (second_name job) a.dimension x.dimension in
-      let is : fault ≡ d = refused_by (dimensions_agree x.dimension a.dimension) (record { x = x; a = a; modulus = job.modulus }) d fault e in
+      let is : fault ≡ d = refused_by (dimensions_agree x.dimension a.dimension) (record { x = x; a = a; modulus = job.options.modulus }) d fault e in
       subst (λ (f : Fault). LoadRestsOn all_names (IsPairIn job) disk before now had has f) (sym is) (named_second, in_files disk d fx fa (e ∙ ap (λ f. Err f) is))
     where
       refused_by : (b : Bool) (given : Given) (d f : Fault) → cond b (Ok given) (Err d) ≡ Err f → f ≡ d
@@ -160,21 +159,5 @@ pub due_err : {A : Type 0} (due r : Result A Fault) → IsDue due r → IfErr r 
 due_err due (Ok x) h = tt
 due_err due (Err fault) h = h
 
--- what a pair is refused for is what its command is refused for
-pub input_passes : (job : Job) (disk : Option Disk) → Passes (job.x ∷ and_subset job.a) (job.x ∷ and_subset job.a) (IsPairIn job) (IsInputOf (Homcubes job)) disk
-input_passes job disk = record { named = λ name n. n; refused = refused_there disk; unread = unread_there disk }
-  where
-    refused_there : (o : Option Disk) → IfSome o (λ disk. (fault : Fault) → IsPairIn job (reading disk) (Err fault) → IsInputOf (Homcubes job) (reading disk) (Err fault))
-    refused_there None = tt
-    refused_there (Some d) = λ fault h. inl h
-
-    unread_there : (o : Option Disk) → IfSome o (λ disk. (name : List ℕ) → IsPairIn job (but_for name (reading disk)) (Err (CannotRead name)) → IsInputOf (Homcubes job) (but_for name (reading disk)) (Err (CannotRead name)))
-    unread_there None = tt
-    unread_there (Some d) = λ name h. inl h
-
 pub counted_none : (n : ℕ) → more n 0 ≤ n
 counted_none n = omega arith
-
-pub input_rests : (job : Job) (disk : Option Disk) (before now : List ℕ → ℕ) (had has : ℕ) (fault : Fault)
-    → LoadRestsOn (job.x ∷ and_subset job.a) (IsPairIn job) disk before now had has fault → LoadRestsOn (names_of (Homcubes job)) (IsInputOf (Homcubes job)) disk before now had has fault
-input_rests job disk before now had has fault = rests_pass (job.x ∷ and_subset job.a) (job.x ∷ and_subset job.a) (IsPairIn job) (IsInputOf (Homcubes job)) disk before before now had had has (input_passes job disk) (λ name. omega arith) (counted_none had) fault

@@ -5,7 +5,7 @@ use Rattle.std.specs.List.{list_any, position_or_len, before_first, after_first}
 use Rattle.std.specs.Str.{bytes_eq}
 use Rattle.std.specs.declared.string.String.{String}
 use Rattle.chomp.specs.declared.tool.Tool.{Tool}
-use Rattle.chomp.specs.declared.tool.Tool.TheVariants.{Homcubes, Cubunion, Cubinter, Cubnbhd, Cubcells}
+use Rattle.chomp.specs.declared.tool.Tool.TheVariants.{Homcubes, Cubunion, Cubinter, Cubnbhd, Cubcells, Homchain}
 use Rattle.chomp.specs.declared.tool.Choice.{Choice}
 use Rattle.chomp.specs.declared.tool.Choice.TheVariants.{Modulus, Cycles}
 use Rattle.chomp.specs.declared.words.Next.{Next}
@@ -30,9 +30,10 @@ form_of Cubunion = record { name = codes "cubunion"; fewest = 2; most = 2; optio
 form_of Cubinter = record { name = codes "cubinter"; fewest = 2; most = 2; options = [] }
 form_of Cubnbhd = record { name = codes "cubnbhd"; fewest = 1; most = 1; options = [] }
 form_of Cubcells = record { name = codes "cubcells"; fewest = 1; most = 1; options = [] }
+form_of Homchain = record { name = codes "homchain"; fewest = 1; most = 1; options = Modulus ∷ Cycles ∷ [] }
 
 abbrev pub tools : List Tool
-tools = Homcubes ∷ Cubunion ∷ Cubinter ∷ Cubnbhd ∷ Cubcells ∷ []
+tools = Homcubes ∷ Cubunion ∷ Cubinter ∷ Cubnbhd ∷ Cubcells ∷ Homchain ∷ []
 
 -- an option: its name, and whether it takes a value
 abbrev pub option_name : Choice → List ℕ

@@ -2,6 +2,7 @@ pub mod Statuses
 pub mod Forms
 pub mod Words
 pub mod Combining
+pub mod Inputs
 pub mod Refusal
 pub mod Right
 pub mod Counting

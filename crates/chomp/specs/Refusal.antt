@@ -12,21 +12,25 @@ use Rattle.elem_cubes.specs.Cells.{Factor}
 use Rattle.grid_files.specs.Closures.{cells_of}
 use Rattle.grid_files.specs.Neighbours.{neighbours_of, are_in_range}
 use Rattle.cell_complex.specs.Gathering.{cell_count}
+use Rattle.chain_files.specs.Content.{Content}
+use Rattle.chain_files.specs.ChainFile as chains
+use Rattle.chain_files.specs.Complexes.{SquaresToZero, IsNotComplexAt}
+use Rattle.chain_files.specs.declared.fault.ChainCause.{ChainCause}
+use Rattle.chain_files.specs.declared.fault.ChainCause.TheVariants as chain_causes
 use Rattle.report.specs.declared.cause.Cause.{Cause}
 use Rattle.report.specs.declared.cause.Cause.TheVariants as causes
 use Rattle.report.specs.declared.fault.Fault.{Fault}
-use Rattle.report.specs.declared.fault.Fault.TheVariants.{CannotRead, BadText, Dimension, Limit}
-use Rattle.report.specs.declared.limit_name.LimitName.TheVariants.{FileBytes, Cubes, Cells, Coordinates}
+use Rattle.report.specs.declared.fault.Fault.TheVariants.{CannotRead, BadText, NotComplex, Dimension, Limit}
+use Rattle.report.specs.declared.limit_name.LimitName.TheVariants.{FileBytes, Cubes, Cells, Generators, Terms, Coordinates}
 use Rattle.chomp.specs.declared.homcubes.Job.{Job}
 use Rattle.chomp.specs.declared.homcubes.Given.{Given}
 use Rattle.chomp.specs.declared.command.Command.{Command}
 use Rattle.chomp.specs.declared.combine.TwoFiles.{TwoFiles}
-use Rattle.chomp.specs.declared.command.Command.TheVariants.{Homcubes, Combine, Cubnbhd, Cubcells}
-use Rattle.chomp.specs.declared.command.Input.{Input}
-use Rattle.chomp.specs.declared.command.Input.TheVariants as inputs
+use Rattle.chomp.specs.declared.command.Command.TheVariants.{Homcubes, Combine, Cubnbhd, Cubcells, Homchain}
 use Rattle.grid_files.specs.declared.fault.Kind.TheVariants.{Any, Full}
 use Rattle.chomp.specs.Words.{command_of}
 use Rattle.chomp.specs.Combining.{Operands, combined_of}
+use Rattle.chomp.specs.Inputs.{Input, of_pair, of_two_sets, of_full_cubes, of_set, of_chain_file}
 
 -- one step after another, up to the first refusal
 abbrev pub Then : {A B : Type 0} → (Result A Fault → Type 0) → (A → Result B Fault → Type 0) → Result B Fault → Type 0
@@ -37,8 +41,8 @@ Then {A} first next (Err fault) = first (Err fault) ⊎ ((x : A) × first (Ok x)
 abbrev pub Is : {A : Type 0} → Result A Fault → Result A Fault → Type 0
 Is due outcome = outcome ≡ due
 
--- ---- limits: the most bytes of one input file, distinct members of one set file or of a set that is made, and cells of a pair, and
--- the greatest end of a cube of a neighbourhood
+-- ---- limits: the most bytes of one input file, distinct members of one set file or of a set that is made, cells of a pair, generators
+-- and terms of one chain file, and the greatest lower coordinate of a full cube
 
 abbrev pub file_bytes : ℕ
 file_bytes = 67108864
@@ -49,8 +53,14 @@ most_cubes = 1048576
 abbrev pub most_cells : ℕ
 most_cells = 4194304
 
-abbrev pub greatest_end : ℕ
-greatest_end = 1073741824
+abbrev pub most_generators : ℕ
+most_generators = 1048576
+
+abbrev pub most_terms : ℕ
+most_terms = 4194304
+
+abbrev pub greatest_lower : ℕ
+greatest_lower = 1073741824
 
 -- ---- the files
 
@@ -109,7 +119,7 @@ second_name job = unwrap_or job.a job.x
 -- the two sets, where their dimensions are one or one of them is unknown
 abbrev pub pair_of : Job → Members → Members → Result Given Fault
 pair_of job x a =
-    if dimensions_agree x.dimension a.dimension then Ok (record { x = x; a = a; modulus = job.modulus })
+    if dimensions_agree x.dimension a.dimension then Ok (record { x = x; a = a; modulus = job.options.modulus })
     else Err (Dimension (second_name job) a.dimension x.dimension)
 
 -- the set first, then the subset, and then their dimensions
@@ -132,6 +142,37 @@ operands_of files x y =
 abbrev pub AreOperandsIn : TwoFiles → Reading → Result Operands Fault → Type 0
 AreOperandsIn files read = Then (IsSetIn Any files.x read) (λ x. Then (IsSetIn Any files.y read) (λ y. Is (operands_of files x y)))
 
+-- ---- `homchain`
+
+-- the refusal of a text: its place and cause, but too many generators or terms are told as the limit that they pass
+abbrev pub chain_fault : List ℕ → ℕ → ChainCause → Fault
+chain_fault name place chain_causes.BadByte = BadText name place causes.BadByte
+chain_fault name place chain_causes.BadNumber = BadText name place causes.BadNumber
+chain_fault name place chain_causes.Unclosed = BadText name place causes.NotClosed
+chain_fault name place chain_causes.UnknownGenerator = BadText name place causes.UnknownGenerator
+chain_fault name place chain_causes.RepeatedGenerator = BadText name place causes.RepeatedGenerator
+chain_fault name place chain_causes.TooManyGenerators = Limit Generators most_generators
+chain_fault name place chain_causes.TooManyTerms = Limit Terms most_terms
+
+-- what a text says modulo p, by the grammar of chain files
+abbrev pub IsValueOf : ℕ → List ℕ → List ℕ → Result Content Fault → Type 0
+IsValueOf p name text (Ok content) = chains.HasValue p text content
+IsValueOf p name text (Err fault) = (place : ℕ) × (cause : ChainCause) × chains.IsRefusedAt p text place cause × (fault ≡ chain_fault name place cause)
+
+-- that it is a complex: the boundary of a boundary is 0 everywhere, or not 0 first there
+abbrev pub IsComplexOf : ℕ → List ℕ → Content → Result Content Fault → Type 0
+IsComplexOf p name content (Ok complex) = SquaresToZero p content × (complex ≡ content)
+IsComplexOf p name content (Err fault) = (degree : ℕ) × (generator : ℕ) × (at : ℕ) × (value : ℕ)
+    × IsNotComplexAt p content degree generator at value × (fault ≡ NotComplex name degree generator value at)
+
+-- the complex of a text: what it says, and then that this is one
+abbrev pub IsContentOf : ℕ → List ℕ → List ℕ → Result Content Fault → Type 0
+IsContentOf p name text = Then (IsValueOf p name text) (IsComplexOf p name)
+
+-- the complex of a file: its reading, and then its text
+abbrev pub IsContentIn : ℕ → List ℕ → Reading → Result Content Fault → Type 0
+IsContentIn p name read = Then (Is (read file_bytes name)) (IsContentOf p name)
+
 -- ---- sets that are made
 
 -- the input, where the set that is made of it has no more members than there may be
@@ -140,27 +181,29 @@ within_cubes cells input = if nat_lt most_cubes (length cells) then Err (Limit C
 
 -- the same for a neighbourhood, all of whose cubes lie in the range of the files
 abbrev pub within_range : List (List Factor) → Input → Result Input Fault
-within_range cells input = if are_in_range cells then within_cubes cells input else Err (Limit Coordinates greatest_end)
+within_range cells input = if are_in_range cells then within_cubes cells input else Err (Limit Coordinates greatest_lower)
 
 -- ---- all tools
 
 -- what the files of a command give
 abbrev pub IsInputOf : Command → Reading → Result Input Fault → Type 0
-IsInputOf (Homcubes job) read = Then (IsPairIn job read) (λ given. Is (Ok (inputs.Homcubes given)))
-IsInputOf (Combine files) read = Then (AreOperandsIn files read) (λ sets. Is (Ok (inputs.Combine sets)))
-IsInputOf (Cubnbhd x) read = Then (IsSetIn Full x read) (λ set. Is (Ok (inputs.Cubnbhd set)))
-IsInputOf (Cubcells x) read = Then (IsSetIn Any x read) (λ set. Is (Ok (inputs.Cubcells set)))
+IsInputOf (Homcubes job) read = Then (IsPairIn job read) (λ given. Is (Ok (of_pair given)))
+IsInputOf (Combine files) read = Then (AreOperandsIn files read) (λ sets. Is (Ok (of_two_sets sets)))
+IsInputOf (Cubnbhd x) read = Then (IsSetIn Full x read) (λ set. Is (Ok (of_full_cubes set)))
+IsInputOf (Cubcells x) read = Then (IsSetIn Any x read) (λ set. Is (Ok (of_set set)))
+IsInputOf (Homchain job) read = Then (IsContentIn job.options.modulus job.file read) (λ content. Is (Ok (of_chain_file job.options.modulus content)))
 
 abbrev pub as_input : Result Given Fault → Result Input Fault
-as_input (Ok given) = Ok (inputs.Homcubes given)
+as_input (Ok given) = Ok (of_pair given)
 as_input (Err fault) = Err fault
 
 -- an input that no limit refuses
 abbrev pub within_limits : Input → Result Input Fault
-within_limits (inputs.Homcubes given) = as_input (within_cells given)
-within_limits (inputs.Combine sets) = within_cubes (combined_of sets.combination sets.x.cells sets.y.cells) (inputs.Combine sets)
-within_limits (inputs.Cubnbhd set) = within_range (neighbours_of set.cells) (inputs.Cubnbhd set)
-within_limits (inputs.Cubcells set) = within_cubes (cells_of set.cells) (inputs.Cubcells set)
+within_limits (of_pair given) = as_input (within_cells given)
+within_limits (of_two_sets sets) = within_cubes (combined_of sets.combination sets.x.cells sets.y.cells) (of_two_sets sets)
+within_limits (of_full_cubes set) = within_range (neighbours_of set.cells) (of_full_cubes set)
+within_limits (of_set set) = within_cubes (cells_of set.cells) (of_set set)
+within_limits (of_chain_file p content) = Ok (of_chain_file p content)
 
 -- the words first, then the files, and then what they give
 abbrev pub IsJudged : List (List ℕ) → Reading → Result Input Fault → Type 0

@@ -4,18 +4,18 @@ use Rattle.outside.specs.Causes.{Rose, more}
 use Rattle.outside.specs.Disk.{Disk}
 use Rattle.outside.specs.Told.{Gains, GainsFront}
 use Rattle.report.specs.declared.fault.Fault.{Fault}
-use Rattle.report.specs.declared.fault.Fault.TheVariants.{CannotRead, BadText, Dimension, Limit, OutOfMemory}
+use Rattle.report.specs.declared.fault.Fault.TheVariants.{CannotRead, BadText, NotComplex, Dimension, Limit, OutOfMemory}
 use Rattle.report.specs.declared.limit_name.LimitName.TheVariants.{FileBytes}
 use Rattle.report.specs.declared.reports.Report.{Report}
 use Rattle.report.specs.ReportText.{report_text}
 use Rattle.chomp.specs.declared.status.Status.{Status}
 use Rattle.chomp.specs.declared.status.Status.TheVariants as statuses
 use Rattle.chomp.specs.declared.command.Command.{Command}
-use Rattle.chomp.specs.declared.command.Input.{Input}
+use Rattle.chomp.specs.Inputs.{Input}
 use Rattle.chomp.specs.Statuses.{status_of}
 use Rattle.chomp.specs.Words.{command_of, names_of, shown_of}
 use Rattle.chomp.specs.Refusal.{Reading, reading, but_for, IsInputOf, within_limits, IsJudged}
-use Rattle.chomp.specs.Right.{IsRight}
+use Rattle.chomp.specs.Right.{IsRight, IsRightAsShown}
 
 -- The result is the due one, or that memory ran out.
 abbrev pub IsDue : {A : Type 0} → Result A Fault → Result A Fault → Type 0
@@ -35,6 +35,8 @@ LoadRestsOn names load disk before now had has (CannotRead name) = Contains name
     × IfSome disk (λ disk. load (but_for name (reading disk)) (Err (CannotRead name)))
 LoadRestsOn names load disk before now had has (BadText name place cause) = Contains names name
     × IfSome disk (λ disk. load (reading disk) (Err (BadText name place cause)))
+LoadRestsOn names load disk before now had has (NotComplex name degree generator value at) = Contains names name
+    × IfSome disk (λ disk. load (reading disk) (Err (NotComplex name degree generator value at)))
 LoadRestsOn names load disk before now had has (Dimension name found earlier) = Contains names name
     × IfSome disk (λ disk. load (reading disk) (Err (Dimension name found earlier)))
 LoadRestsOn names load disk before now had has (Limit FileBytes number) = (more had (number + 1) ≤ has)
@@ -43,13 +45,22 @@ LoadRestsOn names load disk before now had has (Limit count number) = IfSome dis
 LoadRestsOn names load disk before now had has OutOfMemory = Unit {0}
 LoadRestsOn names load disk before now had has fault = ⊥
 
--- What a fault of a run rests on: one of the words on the words; one that came up while files were loaded as above; and a
--- limit that what the files gave passes on that.
+-- What a fault of a command rests on: one that came up while its files were loaded as above, and a limit that what they gave
+-- passes on that.
+abbrev pub ReportRestsOn : Command → Option Disk → (List ℕ → ℕ) → (List ℕ → ℕ) → ℕ → ℕ → Fault → Type 0
+ReportRestsOn command disk before now had has fault =
+    LoadRestsOn (names_of command) (IsInputOf command) disk before now had has fault
+    ⊎ ((input : Input) × IfSome disk (λ disk. IsInputOf command (reading disk) (Ok input)) × (within_limits input ≡ Err fault))
+
+-- The report is right for what the files of the command give, which no limit refuses; cycles that are not printed it may lack.
+abbrev pub IsReportOf : Command → Option Disk → Report → Type 0
+IsReportOf command disk report = (input : Input) × IfSome disk (λ disk. IsInputOf command (reading disk) (Ok input))
+    × (within_limits input ≡ Ok input) × IsRightAsShown (shown_of command).cycles input report
+
+-- What a fault of a run rests on: one of the words on the words, and one of a command as above.
 abbrev pub RestsOn : List (List ℕ) → Option Disk → (List ℕ → ℕ) → (List ℕ → ℕ) → ℕ → ℕ → Fault → Type 0
 RestsOn words disk before now had has fault = (command_of words ≡ Err fault)
-    ⊎ ((command : Command) × (command_of words ≡ Ok command) × (
-    LoadRestsOn (names_of command) (IsInputOf command) disk before now had has fault
-    ⊎ ((input : Input) × IfSome disk (λ disk. IsInputOf command (reading disk) (Ok input)) × (within_limits input ≡ Err fault))))
+    ⊎ ((command : Command) × (command_of words ≡ Ok command) × ReportRestsOn command disk before now had has fault)
     ⊎ (fault ≡ OutOfMemory)
 
 -- The text is that of a right report on what the words ask for and, where told, the files give.

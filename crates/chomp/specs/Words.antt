@@ -10,9 +10,11 @@ use Rattle.chomp.specs.declared.tool.Tool.TheVariants as tools
 use Rattle.chomp.specs.declared.tool.Choice.{Choice}
 use Rattle.chomp.specs.declared.tool.Choice.TheVariants.{Modulus, Cycles}
 use Rattle.chomp.specs.declared.arguments.Setting.{Setting}
+use Rattle.chomp.specs.declared.options.Options.{Options}
 use Rattle.chomp.specs.declared.homcubes.Job.{Job}
+use Rattle.chomp.specs.declared.homchain.Job.{Job as ChainJob}
 use Rattle.chomp.specs.declared.command.Command.{Command}
-use Rattle.chomp.specs.declared.command.Command.TheVariants.{Homcubes, Combine, Cubnbhd, Cubcells}
+use Rattle.chomp.specs.declared.command.Command.TheVariants.{Homcubes, Combine, Cubnbhd, Cubcells, Homchain}
 use Rattle.chomp.specs.declared.combine.Combination.{Combination}
 use Rattle.chomp.specs.declared.combine.Combination.TheVariants.{Union, Intersection}
 use Rattle.chomp.specs.declared.combine.TwoFiles.{TwoFiles}
@@ -37,14 +39,29 @@ abbrev pub modulus_in : List Setting → Option ℕ
 modulus_in [] = Some 2
 modulus_in (s ∷ ss) = modulus_of s.choice s.value (modulus_in ss)
 
--- what the words ask of `homcubes`: the homology of a set, or of a set and a subset, and whether its cycles are printed
-abbrev pub pair_job : List (List ℕ) → Bool → ℕ → Option Job
-pair_job (x ∷ []) cycles modulus = Some (record { x = x; a = None; modulus = modulus; cycles = cycles })
-pair_job (x ∷ a ∷ []) cycles modulus = Some (record { x = x; a = Some a; modulus = modulus; cycles = cycles })
-pair_job operands cycles modulus = None
+-- what the options of the tools that compute homology say: the modulus, and whether the cycles are printed
+abbrev pub with_modulus : Bool → ℕ → Options
+with_modulus cycles modulus = record { modulus = modulus; cycles = cycles }
+
+abbrev pub options_in : List Setting → Option Options
+options_in settings = option_map (with_modulus (is_set Cycles settings)) (modulus_in settings)
+
+-- what the words ask of `homcubes`: the homology of a set, or of a set and a subset
+abbrev pub pair_job : List (List ℕ) → Options → Option Job
+pair_job (x ∷ []) options = Some (record { x = x; a = None; options = options })
+pair_job (x ∷ a ∷ []) options = Some (record { x = x; a = Some a; options = options })
+pair_job operands options = None
 
 abbrev pub homcubes_job : Spoken → Option Job
-homcubes_job spoken = option_and_then (pair_job spoken.operands (is_set Cycles spoken.settings)) (modulus_in spoken.settings)
+homcubes_job spoken = option_and_then (pair_job spoken.operands) (options_in spoken.settings)
+
+-- what the words ask of `homchain`: the homology of the complex of a file
+abbrev pub chain_job : List (List ℕ) → Options → Option ChainJob
+chain_job (file ∷ []) options = Some (record { file = file; options = options })
+chain_job operands options = None
+
+abbrev pub homchain_job : Spoken → Option ChainJob
+homchain_job spoken = option_and_then (chain_job spoken.operands) (options_in spoken.settings)
 
 -- what the words ask of `cubunion` and `cubinter`: to combine two sets
 abbrev pub two_files : Combination → List (List ℕ) → Option TwoFiles
@@ -62,6 +79,7 @@ job_of tools.Cubunion spoken = option_map Combine (two_files Union spoken.operan
 job_of tools.Cubinter spoken = option_map Combine (two_files Intersection spoken.operands)
 job_of tools.Cubnbhd spoken = option_map Cubnbhd (only_operand spoken.operands)
 job_of tools.Cubcells spoken = option_map Cubcells (only_operand spoken.operands)
+job_of tools.Homchain spoken = option_map Homchain (homchain_job spoken)
 
 abbrev pub command_with : Option Tool → List (List ℕ) → Result Command Fault
 command_with None words = Err NoTool
@@ -82,6 +100,7 @@ names_of (Homcubes job) = job.x ∷ and_subset job.a
 names_of (Combine files) = files.x ∷ files.y ∷ []
 names_of (Cubnbhd x) = x ∷ []
 names_of (Cubcells x) = x ∷ []
+names_of (Homchain job) = job.file ∷ []
 
 abbrev pub count_in : Result Command Fault → ℕ
 count_in (Ok command) = length (names_of command)
@@ -95,9 +114,14 @@ files_asked words = count_in (command_of words)
 abbrev pub plain : Shown
 plain = record { modulus = 2; cycles = false }
 
+-- how a report on homology is printed
+abbrev pub shown_with : Options → Shown
+shown_with options = record { modulus = options.modulus; cycles = options.cycles }
+
 -- how the report of a command is printed
 abbrev pub shown_of : Command → Shown
-shown_of (Homcubes job) = record { modulus = job.modulus; cycles = job.cycles }
+shown_of (Homcubes job) = shown_with job.options
 shown_of (Combine files) = plain
 shown_of (Cubnbhd x) = plain
 shown_of (Cubcells x) = plain
+shown_of (Homchain job) = shown_with job.options

@@ -1,17 +1,17 @@
-//! The homology of a pair of sets with the cycles of a basis.
-ghost use Rattle.std.specs.Prelude.{◌≡◌, ◌<◌, ◌≤◌, ◌+◌, ◌++◌, ℕ, map, length, slice_index_or, IfOk, OnOk, Err};
+//! The homology of a complex with the cycles of a basis.
+ghost use Rattle.std.specs.Prelude.{◌≡◌, ◌<◌, ◌≤◌, ◌+◌, ◌++◌, ℕ, [], map, length, slice_index_or, IfOk, OnOk, Err};
 ghost use Rattle.cell_complex.specs.Gathering.{cell_count};
-ghost use Rattle.cell_complex.specs.Numbering.{cell_terms};
 ghost use Rattle.homology_basis.specs.Bases.{in_degree};
 ghost use Rattle.chomp.specs.Right.{IsRightPair};
 ghost use Rattle.chomp.specs.ByDegree.{AreByDegree};
 
 use crate::modulus::{Modulus, by_modulus};
-use cell_complex::{CELLS, CellsFault, Numbered};
+use crate::naming::Naming;
+use cell_complex::{CELLS, CellsFault};
 use field_mod::Field;
 use grid_files::CubeSet;
 use homology_basis::{Basis, Prepared, basis, prepare};
-use report::{CellChain, Cycles, Dimensions, PairReport};
+use report::{Cycles, Dimensions, PairReport, Terms};
 use std::alloc::{AllocError as NoMemory, Global};
 
 /// The dimensions of the homology of a pair modulo a prime of the table, and the cycles of a basis, by degree from 0 to
@@ -50,58 +50,43 @@ fn basis_over<const P: u16>(
     let basis = basis(alloc, field, log)?;
     // Its clauses say that the cells are in order.
     let _count = cells.len();
-    let pair = by_degree(alloc, &cells, &basis, most)?;
-    Ok(pair)
+    let (dimensions, cycles) = cycles_by_degree(alloc, &cells, &basis, most)?;
+    Ok(PairReport { dimensions, cycles })
 }
 
-// The dimensions of a basis, and its cycles over the cells, by degree from 0 to `most`.
-fn by_degree<const P: u16>(
+/// The dimensions of a basis and its cycles, with names for the generators, by degree from 0 to `most`.
+pub fn cycles_by_degree<const P: u16, G: Drop, N: Naming<G>>(
     alloc: Global,
-    cells: &Numbered,
+    naming: &N,
     basis: &Basis<P>,
     most: u8,
-) -> Result<PairReport, NoMemory>
-    requires { length basis.now.log.complex.boundaries ≡ length cells.now }
-    ensures { IfOk result (λ pair. AreByDegree cells.now basis.now.cycles (most + 1) pair.dimensions pair.cycles) }
+) -> Result<(Dimensions, Cycles<G>), NoMemory>
+    requires { (k j : ℕ) → k ≤ most → j < length (in_degree basis.now.cycles k) → N.can_name naming.now k (slice_index_or (in_degree basis.now.cycles k) j []) }
+    ensures { IfOk result (λ made. AreByDegree (N.names naming.now) basis.now.cycles (most + 1) made.0 made.1) }
 {
     let mut dimensions = Vec::new(alloc);
     let mut cycles = Vec::new(alloc);
     for degree in 0..=most {
         dimensions.push(basis.dimension(degree))?;
-        cycles.push(cycles_in(alloc, cells, basis, degree)?)?;
+        cycles.push(cycles_in(alloc, naming, basis, degree)?)?;
     }
-    Ok(PairReport {
-        dimensions: Dimensions::of(dimensions),
-        cycles: Cycles::of(cycles),
-    })
+    Ok((Dimensions::of(dimensions), Cycles::of(cycles)))
 }
 
-// The cycles of a degree over the cells.
-fn cycles_in<const P: u16>(
+// The cycles of a degree, with names for the generators.
+fn cycles_in<const P: u16, G: Drop, N: Naming<G>>(
     alloc: Global,
-    cells: &Numbered,
+    naming: &N,
     basis: &Basis<P>,
     degree: u8,
-) -> Result<Vec<CellChain>, NoMemory>
-    requires { length basis.now.log.complex.boundaries ≡ length cells.now }
-    ensures { IfOk result (λ cycles. cycles.items ≡ map (cell_terms cells.now) (in_degree basis.now.cycles degree)) }
+) -> Result<Vec<Terms<G>>, NoMemory>
+    requires { (j : ℕ) → j < length (in_degree basis.now.cycles degree) → N.can_name naming.now degree (slice_index_or (in_degree basis.now.cycles degree) j []) }
+    ensures { IfOk result (λ cycles. cycles.items ≡ map (N.names naming.now degree) (in_degree basis.now.cycles degree)) }
 {
     let mut cycles = Vec::new(alloc);
     for number in 0..basis.dimension(degree) {
         let terms = basis.cycle(degree, number).terms();
-        cycles.push(cell_terms(alloc, cells, terms)?)?;
+        cycles.push(naming.named(alloc, degree, terms)?)?;
     }
     Ok(cycles)
-}
-
-// Terms with their cells in place of the numbers of these.
-fn cell_terms(alloc: Global, cells: &Numbered, terms: &[(u32, u16)]) -> Result<CellChain, NoMemory>
-    requires { (i : ℕ) → i < length terms.now → (slice_index_or terms.now i (0, 0)).0 < length cells.now }
-    ensures { IfOk result (λ chain. chain ≡ cell_terms cells.now terms.now) }
-{
-    let mut with_cells = Vec::new(alloc);
-    for (number, coefficient) in terms {
-        with_cells.push((cells.cell(*number), *coefficient))?;
-    }
-    Ok(CellChain::of(with_cells))
 }

@@ -3,15 +3,16 @@ ghost use Rattle.std.specs.Prelude.{◌≡◌, ◌≤◌, ◌+◌, ◌*◌, ◌�
 ghost use Rattle.elem_cubes.specs.Cells.{Factor};
 ghost use Rattle.grid_files.specs.Sets.{holds, dimensions_agree};
 ghost use Rattle.report.specs.ReportText.{HasText};
-ghost use Rattle.chomp.specs.Words.{formed, two_files, names_of};
+ghost use Rattle.chomp.specs.Words.{formed, two_files};
+ghost use Rattle.chomp.specs.Inputs.{of_two_sets};
 ghost use Rattle.chomp.specs.Combining.{is_combined, combined_of};
-ghost use Rattle.chomp.specs.Refusal.{AreOperandsIn, IsInputOf, operands_of, within_limits, reading, file_bytes};
-ghost use Rattle.chomp.specs.Saying.{LoadRestsOn, IsDue};
+ghost use Rattle.chomp.specs.Refusal.{AreOperandsIn, operands_of, within_limits, reading, file_bytes};
+ghost use Rattle.chomp.specs.Saying.{LoadRestsOn, IsReportOf, ReportRestsOn, IsDue};
 ghost use Rattle.chomp.specs.Right.{common_dimension, IsCombinationOf};
 
 use crate::arguments::Arguments;
-use crate::command::{Command, Input};
-use crate::loading::{copied, load_set};
+use crate::command::Command;
+use crate::loading::{agree, copied, load_set};
 use crate::tool::Tool;
 use crate::words::not_a_form;
 use grid_files::{CUBES, CubeSet, Kind};
@@ -49,7 +50,8 @@ pub struct TwoSets {
 }
 
 impl Model for TwoSets {
-    ghost use Rattle.chomp.specs.Combining.{Operands, AreOperands};
+    ghost use Rattle.chomp.specs.Inputs.{of_two_sets};
+ghost use Rattle.chomp.specs.Combining.{Operands, AreOperands};
 
     ghost Value = { Operands };
 
@@ -77,19 +79,21 @@ pub fn asked(
     }
 }
 
-/// What the files give: the first set, then the second, and then their dimensions.
-pub fn load<F: Files>(alloc: Global, files: &mut F, named: &TwoFiles) -> Result<TwoSets, Fault>
-    ensures sets { IfOk result (λ sets. IfSome (F.holds files.old) (λ disk. AreOperandsIn named.now (reading disk) (Ok sets))) }
-    ensures fault { IfErr result (LoadRestsOn (names_of (Command.Combine named.now)) (IsInputOf (Command.Combine named.now)) (F.holds files.old)
+/// The report on the two sets of the files combined, or the first refusal.
+pub fn report_on<F: Files>(alloc: Global, files: &mut F, named: &TwoFiles) -> Result<Report, Fault>
+    ensures report { IfOk result (IsReportOf (Command.Combine named.now) (F.holds files.old)) }
+    ensures text { IfOk result HasText }
+    ensures fault { IfErr result (ReportRestsOn (Command.Combine named.now) (F.holds files.old)
         (F.read_faults files.old) (F.read_faults files.new) (F.given files.old) (F.given files.new)) }
-    ensures bytes { F.given files.new ≤ F.given files.old + 2 * (file_bytes + 1) }
+    ensures given { F.given files.new ≤ F.given files.old + 2 * (file_bytes + 1) }
     ensures holds { F.holds files.new ≡ F.holds files.old }
 {
-    load_two(alloc, files, named)
+    let sets = load(alloc, files, named)?;
+    compute(alloc, &sets)
 }
 
-// The same, whatever the command.
-fn load_two<F: Files>(alloc: Global, files: &mut F, named: &TwoFiles) -> Result<TwoSets, Fault>
+// What the files give: the first set, then the second, and then their dimensions.
+fn load<F: Files>(alloc: Global, files: &mut F, named: &TwoFiles) -> Result<TwoSets, Fault>
     ensures sets { IfOk result (λ sets. IfSome (F.holds files.old) (λ disk. AreOperandsIn named.now (reading disk) (Ok sets))) }
     ensures fault { IfErr result (LoadRestsOn (named.now.x ∷ named.now.y ∷ []) (AreOperandsIn named.now) (F.holds files.old)
         (F.read_faults files.old) (F.read_faults files.new) (F.given files.old) (F.given files.new)) }
@@ -107,16 +111,15 @@ fn operands(alloc: Global, named: &TwoFiles, x: CubeSet, y: CubeSet) -> Result<T
     requires few_of_y { length y.cells ≤ CUBES }
     ensures { IsDue (operands_of named.now x y) result }
 {
-    let (before, found) = (x.dimension(), y.dimension());
-    if before == found || before == 0 || found == 0 {
+    if agree(&x, &y) {
         let combination = named.combination;
         return Ok(TwoSets { x, y, combination });
     }
     let name = copied(alloc, &named.y)?;
     Err(Fault::Dimension {
         name,
-        found,
-        before,
+        found: y.dimension(),
+        before: x.dimension(),
     })
 }
 
@@ -139,12 +142,12 @@ fn combined(
     }
 }
 
-/// The report on the two sets combined.
-pub fn compute(alloc: Global, sets: &TwoSets) -> Result<Report, Fault>
+// The report on the two sets combined.
+fn compute(alloc: Global, sets: &TwoSets) -> Result<Report, Fault>
     ensures report { IfOk result (IsCombinationOf sets.now) }
     ensures text { IfOk result HasText }
-    ensures within { OnOk result (within_limits (Input.Combine sets.now) ≡ Ok (Input.Combine sets.now)) }
-    ensures fault { IfErr result (λ fault. (within_limits (Input.Combine sets.now) ≡ Err fault) ⊎ (fault ≡ Fault.OutOfMemory)) }
+    ensures within { OnOk result (within_limits (of_two_sets sets.now) ≡ Ok (of_two_sets sets.now)) }
+    ensures fault { IfErr result (λ fault. (within_limits (of_two_sets sets.now) ≡ Err fault) ⊎ (fault ≡ Fault.OutOfMemory)) }
 {
     let Ok(set) = combined(alloc, sets.combination, &sets.x, &sets.y) else {
         return Err(Fault::OutOfMemory);

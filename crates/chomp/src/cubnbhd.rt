@@ -1,13 +1,13 @@
 //! The tool `cubnbhd`: all full cubes that share a point with a member of a set of full cubes.
-ghost use Rattle.std.specs.Prelude.{◌≡◌, ◌≤◌, ◌+◌, ◌⊎◌, IfOk, IfErr, IfSome, OnOk, Ok, Err};
+ghost use Rattle.std.specs.Prelude.{◌≡◌, ◌≤◌, ◌+◌, ◌⊎◌, ◌∷◌, [], IfOk, IfErr, IfSome, OnOk, Ok, Err};
 ghost use Rattle.grid_files.specs.declared.fault.Kind.TheVariants.{Full};
 ghost use Rattle.report.specs.ReportText.{HasText};
-ghost use Rattle.chomp.specs.Words.{names_of};
-ghost use Rattle.chomp.specs.Refusal.{IsSetIn, IsInputOf, within_limits, reading, file_bytes};
-ghost use Rattle.chomp.specs.Saying.{LoadRestsOn};
+ghost use Rattle.chomp.specs.Inputs.{of_full_cubes};
+ghost use Rattle.chomp.specs.Refusal.{IsSetIn, within_limits, reading, file_bytes};
+ghost use Rattle.chomp.specs.Saying.{LoadRestsOn, IsReportOf, ReportRestsOn};
 ghost use Rattle.chomp.specs.Right.{IsNeighbourhoodOf};
 
-use crate::command::{Command, Input};
+use crate::command::Command;
 use crate::loading::load_set;
 use grid_files::{CUBES, CubeSet, Kind, SetFault};
 use outside::Files;
@@ -15,8 +15,8 @@ use report::{Fault, LimitName, Name, Report};
 use std::alloc::Global;
 use std::marker::Model;
 
-/// The greatest end of a cube of a neighbourhood.
-const GREATEST_END: u64 = 1_073_741_824;
+/// The greatest lower coordinate of a full cube.
+const GREATEST_LOWER: u64 = 1_073_741_824;
 
 /// A set of full cubes.
 #[derive(Drop)]
@@ -36,10 +36,23 @@ impl Model for FullCubes {
     ghost invariant = { λ f. IsTrue (are_full f.set.cells) };
 }
 
-/// The set of the file.
-pub fn load<F: Files>(alloc: Global, files: &mut F, x: &Name) -> Result<FullCubes, Fault>
+/// The report on the set of the file, or the first refusal.
+pub fn report_on<F: Files>(alloc: Global, files: &mut F, x: &Name) -> Result<Report, Fault>
+    ensures report { IfOk result (IsReportOf (Command.Cubnbhd x.now) (F.holds files.old)) }
+    ensures text { IfOk result HasText }
+    ensures fault { IfErr result (ReportRestsOn (Command.Cubnbhd x.now) (F.holds files.old)
+        (F.read_faults files.old) (F.read_faults files.new) (F.given files.old) (F.given files.new)) }
+    ensures given { F.given files.new ≤ F.given files.old + (file_bytes + 1) }
+    ensures holds { F.holds files.new ≡ F.holds files.old }
+{
+    let cubes = load(alloc, files, x)?;
+    compute(alloc, &cubes)
+}
+
+// The set of the file.
+fn load<F: Files>(alloc: Global, files: &mut F, x: &Name) -> Result<FullCubes, Fault>
     ensures set { IfOk result (λ set. IfSome (F.holds files.old) (λ disk. IsSetIn Full x.now (reading disk) (Ok set))) }
-    ensures fault { IfErr result (LoadRestsOn (names_of (Command.Cubnbhd x.now)) (IsInputOf (Command.Cubnbhd x.now)) (F.holds files.old)
+    ensures fault { IfErr result (LoadRestsOn (x.now ∷ []) (IsSetIn Full x.now) (F.holds files.old)
         (F.read_faults files.old) (F.read_faults files.new) (F.given files.old) (F.given files.new)) }
     ensures bytes { F.given files.new ≤ F.given files.old + (file_bytes + 1) }
     ensures holds { F.holds files.new ≡ F.holds files.old }
@@ -48,12 +61,12 @@ pub fn load<F: Files>(alloc: Global, files: &mut F, x: &Name) -> Result<FullCube
     Ok(FullCubes { set })
 }
 
-/// The report on the neighbourhood of the set.
-pub fn compute(alloc: Global, cubes: &FullCubes) -> Result<Report, Fault>
+// The report on the neighbourhood of the set.
+fn compute(alloc: Global, cubes: &FullCubes) -> Result<Report, Fault>
     ensures report { IfOk result (IsNeighbourhoodOf cubes.now) }
     ensures text { IfOk result HasText }
-    ensures within { OnOk result (within_limits (Input.Cubnbhd cubes.now) ≡ Ok (Input.Cubnbhd cubes.now)) }
-    ensures fault { IfErr result (λ fault. (within_limits (Input.Cubnbhd cubes.now) ≡ Err fault) ⊎ (fault ≡ Fault.OutOfMemory)) }
+    ensures within { OnOk result (within_limits (of_full_cubes cubes.now) ≡ Ok (of_full_cubes cubes.now)) }
+    ensures fault { IfErr result (λ fault. (within_limits (of_full_cubes cubes.now) ≡ Err fault) ⊎ (fault ≡ Fault.OutOfMemory)) }
 {
     match cubes.set.neighbourhood(alloc) {
         Ok(set) => {
@@ -62,7 +75,7 @@ pub fn compute(alloc: Global, cubes: &FullCubes) -> Result<Report, Fault>
         }
         Err(SetFault::Coordinates) => Err(Fault::Limit {
             count: LimitName::Coordinates,
-            number: GREATEST_END,
+            number: GREATEST_LOWER,
         }),
         Err(SetFault::TooMany) => Err(Fault::Limit {
             count: LimitName::Cubes,

@@ -1,20 +1,21 @@
 //! The tool `homcubes`: the homology of a set or a pair.
 ghost use Rattle.std.specs.Prelude.{◌≡◌, ◌<◌, ◌≤◌, ◌+◌, ◌*◌, ◌∷◌, ◌++◌, ◌⊎◌, [], length, Some, IfOk, IfErr, IfSome, OnOk, Ok, Err};
-ghost use Rattle.outside.specs.Causes.{NoneFell};
 ghost use Rattle.cell_complex.specs.Gathering.{cell_count};
 ghost use Rattle.report.specs.ReportText.{HasText};
-ghost use Rattle.chomp.specs.Words.{formed, modulus_in, homcubes_job, and_subset, names_of};
-ghost use Rattle.chomp.specs.Refusal.{IsPairIn, IsInputOf, pair_of, within_cells, reading, file_bytes};
-ghost use Rattle.chomp.specs.Saying.{LoadRestsOn, IsDue};
+ghost use Rattle.chomp.specs.Words.{formed, homcubes_job, and_subset};
+ghost use Rattle.chomp.specs.Inputs.{of_pair};
+ghost use Rattle.chomp.specs.Refusal.{IsPairIn, pair_of, within_limits, reading, file_bytes};
+ghost use Rattle.chomp.specs.Saying.{LoadRestsOn, IsReportOf, ReportRestsOn, IsDue};
 ghost use Rattle.chomp.specs.Right.{common_dimension, IsRightAsShown};
 
-use crate::arguments::{Arguments, Setting, is_set};
+use crate::arguments::Arguments;
 use crate::bases::basis_of_pair;
-use crate::command::{Command, Input};
+use crate::command::Command;
 use crate::homology::dimensions;
-use crate::loading::{copied, load_set, load_subset};
+use crate::loading::{agree, copied, load_set, load_subset};
 use crate::modulus::Modulus;
-use crate::tool::{Choice, Tool};
+use crate::options::Options;
+use crate::tool::Tool;
 use crate::words::not_a_form;
 use cell_complex::{CELLS, CellsFault};
 use grid_files::{CubeSet, Kind};
@@ -29,10 +30,8 @@ pub struct Job {
     pub x: Name,
     /// The file of the subset, where there is one.
     pub a: Option<Name>,
-    /// The modulus of the coefficients.
-    pub modulus: Modulus,
-    /// Whether the cycles are printed.
-    pub cycles: bool,
+    /// What the options say.
+    pub options: Options,
 }
 
 /// What the files give.
@@ -50,18 +49,16 @@ pub struct Given {
 pub fn asked(alloc: Global, arguments: &Arguments) -> Result<Job, Fault>
     ensures { IsDue (formed Tool.Homcubes (homcubes_job arguments.now)) result }
 {
-    let Some(modulus) = modulus_in(arguments.settings()) else {
+    let Some(options) = Options::of(arguments.settings()) else {
         return Err(not_a_form(alloc, Tool::Homcubes));
     };
-    let cycles = is_set(Choice::Cycles, arguments.settings());
     match arguments.operands() {
         [x] => {
             let x = copied(alloc, x)?;
             Ok(Job {
                 x,
                 a: None,
-                modulus,
-                cycles,
+                options,
             })
         }
         [x, a] => {
@@ -70,45 +67,28 @@ pub fn asked(alloc: Global, arguments: &Arguments) -> Result<Job, Fault>
             Ok(Job {
                 x,
                 a: Some(a),
-                modulus,
-                cycles,
+                options,
             })
         }
         _ => Err(not_a_form(alloc, Tool::Homcubes)),
     }
 }
 
-// The modulus that the options set; without one it is 2.
-fn modulus_in(settings: &[Setting]) -> Option<Modulus>
-    ensures { result ≡ modulus_in settings.now }
-{
-    for setting in settings {
-        match setting.choice {
-            Choice::Modulus => {
-                return match &setting.value {
-                    Some(word) => Modulus::named(word.as_str()),
-                    None => None,
-                };
-            }
-            Choice::Cycles => {}
-        }
-    }
-    Some(Modulus::usual())
-}
-
-/// What the files give: the set first, then the subset, and then their dimensions.
-pub fn load<F: Files>(alloc: Global, files: &mut F, job: &Job) -> Result<Given, Fault>
-    ensures given { IfOk result (λ given. IfSome (F.holds files.old) (λ disk. IsPairIn job.now (reading disk) (Ok given))) }
-    ensures fault { IfErr result (LoadRestsOn (names_of (Command.Homcubes job.now)) (IsInputOf (Command.Homcubes job.now)) (F.holds files.old)
+/// The report on the pair of the files, or the first refusal.
+pub fn report_on<F: Files>(alloc: Global, files: &mut F, job: &Job) -> Result<Report, Fault>
+    ensures report { IfOk result (IsReportOf (Command.Homcubes job.now) (F.holds files.old)) }
+    ensures text { IfOk result HasText }
+    ensures fault { IfErr result (ReportRestsOn (Command.Homcubes job.now) (F.holds files.old)
         (F.read_faults files.old) (F.read_faults files.new) (F.given files.old) (F.given files.new)) }
-    ensures bytes { F.given files.new ≤ F.given files.old + length (job.now.x ∷ and_subset job.now.a) * (file_bytes + 1) }
+    ensures given { F.given files.new ≤ F.given files.old + length (job.now.x ∷ and_subset job.now.a) * (file_bytes + 1) }
     ensures holds { F.holds files.new ≡ F.holds files.old }
 {
-    load_pair(alloc, files, job)
+    let given = load(alloc, files, job)?;
+    compute(alloc, &given, job.options.cycles)
 }
 
-// The same, whatever the command.
-fn load_pair<F: Files>(alloc: Global, files: &mut F, job: &Job) -> Result<Given, Fault>
+// What the files give: the set first, then the subset, and then their dimensions.
+fn load<F: Files>(alloc: Global, files: &mut F, job: &Job) -> Result<Given, Fault>
     ensures given { IfOk result (λ given. IfSome (F.holds files.old) (λ disk. IsPairIn job.now (reading disk) (Ok given))) }
     ensures fault { IfErr result (LoadRestsOn (job.now.x ∷ and_subset job.now.a) (IsPairIn job.now) (F.holds files.old)
         (F.read_faults files.old) (F.read_faults files.new) (F.given files.old) (F.given files.new)) }
@@ -124,9 +104,8 @@ fn load_pair<F: Files>(alloc: Global, files: &mut F, job: &Job) -> Result<Given,
 fn paired(alloc: Global, job: &Job, x: CubeSet, a: CubeSet) -> Result<Given, Fault>
     ensures { IsDue (pair_of job.now x a) result }
 {
-    let (before, found) = (x.dimension(), a.dimension());
-    if before == found || before == 0 || found == 0 {
-        let modulus = job.modulus;
+    if agree(&x, &a) {
+        let modulus = job.options.modulus;
         return Ok(Given { x, a, modulus });
     }
     let name = match &job.a {
@@ -135,8 +114,8 @@ fn paired(alloc: Global, job: &Job, x: CubeSet, a: CubeSet) -> Result<Given, Fau
     };
     Err(Fault::Dimension {
         name,
-        found,
-        before,
+        found: a.dimension(),
+        before: x.dimension(),
     })
 }
 
@@ -151,12 +130,12 @@ fn common_dimension(x: &CubeSet, a: &CubeSet) -> u8
     }
 }
 
-/// The report on the homology of the pair: its dimensions modulo the prime, and the cycles of a basis where they are printed.
-pub fn compute(alloc: Global, given: &Given, cycles: bool) -> Result<Report, Fault>
-    ensures report { IfOk result (IsRightAsShown cycles (Input.Homcubes given.now)) }
+// The report on the homology of the pair: its dimensions modulo the prime, and the cycles of a basis where they are printed.
+fn compute(alloc: Global, given: &Given, cycles: bool) -> Result<Report, Fault>
+    ensures report { IfOk result (IsRightAsShown cycles (of_pair given.now)) }
     ensures text { IfOk result HasText }
-    ensures within { OnOk result (within_cells given.now ≡ Ok given.now) }
-    ensures fault { IfErr result (λ fault. (within_cells given.now ≡ Err fault) ⊎ (fault ≡ Fault.OutOfMemory)) }
+    ensures within { OnOk result (within_limits (of_pair given.now) ≡ Ok (of_pair given.now)) }
+    ensures fault { IfErr result (λ fault. (within_limits (of_pair given.now) ≡ Err fault) ⊎ (fault ≡ Fault.OutOfMemory)) }
 {
     match pair_report(alloc, given, cycles) {
         Ok(pair) => Ok(Report::Pair(pair)),
@@ -170,7 +149,7 @@ pub fn compute(alloc: Global, given: &Given, cycles: bool) -> Result<Report, Fau
 
 // What is printed on the pair. Cycles that are not printed are left out, and not made.
 fn pair_report(alloc: Global, given: &Given, cycles: bool) -> Result<PairReport, CellsFault>
-    ensures right { IfOk result (λ pair. IsRightAsShown cycles (Input.Homcubes given.now) (Report.Pair pair)) }
+    ensures right { IfOk result (λ pair. IsRightAsShown cycles (of_pair given.now) (Report.Pair pair)) }
     ensures few { OnOk result (cell_count (given.now.x.cells ++ given.now.a.cells) ≤ CELLS) }
     ensures many { result ≡ Err CellsFault.TooManyCells → CELLS < cell_count (given.now.x.cells ++ given.now.a.cells) }
 {

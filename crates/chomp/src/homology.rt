@@ -1,15 +1,14 @@
-//! The homology of a pair of sets.
-ghost use Rattle.std.specs.Prelude.{◌≡◌, ◌<◌, ◌≤◌, ◌++◌, List, length, IfOk, OnOk, Err};
-ghost use Rattle.elem_cubes.specs.Cells.{Factor};
-ghost use Rattle.cell_complex.specs.Sorted.{IsSortedCells};
-ghost use Rattle.cell_complex.specs.Numbering.{IsComplexOf};
+//! The dimensions of homology.
+ghost use Rattle.std.specs.Prelude.{◌≡◌, ◌<◌, ◌≤◌, ◌++◌, length, IfOk, OnOk, Err};
 ghost use Rattle.cell_complex.specs.Gathering.{cell_count};
 ghost use Rattle.chomp.specs.Right.{HasDimensions};
-ghost use Rattle.chomp.specs.Counting.{Counts};
+ghost use Rattle.chains.specs.ChainComplex.{IsComplex};
+ghost use Rattle.chomp.specs.Counting.{Counts, HasBases};
 
 use crate::modulus::{Modulus, by_modulus};
 use algebraic_reduction::Log;
-use cell_complex::{CELLS, CellsFault, Numbered, complex_of, relative};
+use cell_complex::{CELLS, CellsFault, complex_of, relative};
+use chains::Complex;
 use field_mod::Field;
 use grid_files::CubeSet;
 use std::alloc::{AllocError as NoMemory, Global};
@@ -48,27 +47,41 @@ fn dimensions_over<const P: u16>(
 {
     let cells = relative(alloc, x, a)?;
     let complex = complex_of(alloc, field, &cells)?;
+    // Its clauses say that the cells are in order.
+    let _count = cells.len();
+    let counts = dimensions_of(alloc, field, complex, most)?;
+    Ok(counts)
+}
+
+/// The dimensions of the homology of a complex, by degree from 0 to `most`.
+pub fn dimensions_of<const P: u16>(
+    alloc: Global,
+    field: Field<P>,
+    complex: Complex<P>,
+    most: u8,
+) -> Result<Vec<u32>, NoMemory>
+    ensures bases { IfOk result (λ counts. HasBases P complex.entry most counts.items) }
+    ensures complex { OnOk result (IsComplex P complex.entry) }
+{
     let log = Log::start(alloc, complex)?.reduce_all(field)?;
-    let counts = left_by_degree(alloc, &log, &cells, most)?;
+    let counts = left_by_degree(alloc, &log, most)?;
     // Its clauses tell that the log is a reduction of the complex.
     let _steps = log.step_count();
     Ok(counts)
 }
 
-// How many generators are in no step, by degree from 0 to `most`. The generators are the numbers of the cells.
+// How many generators are in no step, by degree from 0 to `most`.
 fn left_by_degree<const P: u16>(
     alloc: Global,
     log: &Log<P>,
-    cells: &Numbered,
     most: u8,
 ) -> Result<Vec<u32>, NoMemory>
-    requires { IsComplexOf P cells.now log.now.complex }
-    ensures counts { IfOk result (λ counts. Counts log.now.complex log.now.steps most (length cells.now) counts.items) }
-    ensures sorted { OnOk result (IsSortedCells cells.now) }
+    ensures { IfOk result (λ counts. Counts log.now.complex log.now.steps most (length log.now.complex.boundaries) counts.items) }
 {
+    let complex = log.complex();
     let mut counts = vec![in alloc; 0u32; usize::from(most) + 1]?;
-    for number in 0..cells.len() {
-        let degree = cells.cell(number).dim() as usize;
+    for number in 0..complex.len() {
+        let degree = usize::from(complex.degree(number));
         if log.alive(number) && degree < counts.len() {
             counts[degree] += 1;
         }

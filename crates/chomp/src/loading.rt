@@ -1,6 +1,7 @@
 //! Files as values, or the first refusal.
 ghost use Rattle.std.specs.Prelude.{◌≡◌, ◌≤◌, ◌+◌, ◌*◌, ◌^◌, ◌⊎◌, ◌∷◌, [], length, None, Some, IsTrue, IfOk, IfErr, IfSome, OnOk, Ok, Err};
 ghost use Rattle.outside.specs.Causes.{NoneFell, more};
+ghost use Rattle.grid_files.specs.Sets.{dimensions_agree};
 ghost use Rattle.grid_files.specs.SetFile.{no_members};
 ghost use Rattle.grid_files.specs.Neighbours.{are_full};
 ghost use Rattle.chomp.specs.Words.{and_subset};
@@ -69,8 +70,8 @@ fn no_set(alloc: Global) -> Result<CubeSet, Fault>
     Ok(set)
 }
 
-// The bytes of a file, of which so many are allowed.
-fn load_bytes<F: Files>(
+/// The bytes of a file, of which so many are allowed.
+pub fn load_bytes<F: Files>(
     alloc: Global,
     files: &mut F,
     name: &Name,
@@ -151,6 +152,14 @@ fn cannot_read(alloc: Global, name: &Name) -> Fault
         Ok(name) => Fault::CannotRead { name },
         Err(_) => Fault::OutOfMemory,
     }
+}
+
+/// Whether the dimensions of two sets are one, or one of them is unknown.
+pub fn agree(x: &CubeSet, y: &CubeSet) -> bool
+    ensures { result ≡ dimensions_agree x.now.dimension y.now.dimension }
+{
+    let (before, found) = (x.dimension(), y.dimension());
+    before == found || before == 0 || found == 0
 }
 
 /// A name once more.

@@ -8,11 +8,14 @@ mod command;
 mod cubcells;
 mod cubnbhd;
 mod delivery;
+mod homchain;
 mod homcubes;
 mod homology;
 mod laws;
 mod loading;
 mod modulus;
+mod naming;
+mod options;
 mod run;
 mod status;
 mod tool;
@@ -59,6 +62,8 @@ fn words_of(rt: &HostRuntime) -> Result<Vec<String>, Fault> {
     }
 }
 
+#[cfg(test)]
+mod chain_tests;
 #[cfg(test)]
 mod set_tests;
 #[cfg(test)]

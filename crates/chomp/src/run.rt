@@ -5,11 +5,12 @@ ghost use Rattle.outside.specs.Causes.{Rose};
 ghost use Rattle.report.specs.FaultText.{fault_text};
 ghost use Rattle.chomp.specs.Statuses.{status_of};
 ghost use Rattle.chomp.specs.Forms.{spoken};
+ghost use Rattle.chomp.specs.Inputs.{Input};
 ghost use Rattle.chomp.specs.Words.{command_of, files_asked};
 ghost use Rattle.chomp.specs.Refusal.{IsJudged, reading, file_bytes};
 ghost use Rattle.chomp.specs.Saying.{Says, RestsOn, IsAnswer, ReadFailed, Answers};
 
-use crate::command::{Input, command_of, compute, load};
+use crate::command::{command_of, report_on};
 use crate::delivery::{deliver, refuse};
 use crate::status::Status;
 use outside::{Files, Gate, Sink};
@@ -78,10 +79,8 @@ fn answer<F: Files>(alloc: Global, words: &[String], files: &mut F) -> Result<Ve
     ensures given { F.given files.new ≤ F.given files.old + files_asked (spoken words.now) * (file_bytes + 1) }
 {
     let command = command_of(alloc, words)?;
-    let input = load(alloc, files, &command)?;
-    let shown = command.shown();
-    let report = compute(alloc, &input, shown.cycles)?;
-    match text(alloc, &report, &shown) {
+    let made = report_on(alloc, files, &command)?;
+    match text(alloc, &made, &command.shown()) {
         Ok(text) => Ok(text),
         Err(_) => Err(Fault::OutOfMemory),
     }

@@ -19,11 +19,12 @@ const FILES: [(&str, &str); 9] = [
     ("open", "(0 0) (1"),
 ];
 
-struct Row {
-    words: &'static [&'static str],
-    status: Status,
-    out: &'static str,
-    err: &'static str,
+/// Words, and what a run of them has to answer.
+pub struct Row {
+    pub words: &'static [&'static str],
+    pub status: Status,
+    pub out: &'static str,
+    pub err: &'static str,
 }
 
 const DONE: Row = Row {
@@ -165,22 +166,28 @@ const REFUSED: [Row; 15] = [
     },
 ];
 
-fn held(alloc: Global) -> Result<Vec<(String, Vec<u8>)>, Fail> {
+// Files in memory, by their names and texts.
+fn held(alloc: Global, named: &[(&str, &str)]) -> Result<Vec<(String, Vec<u8>)>, Fail> {
     let mut files = Vec::new(alloc);
-    for (name, text) in &FILES {
+    for (name, text) in named {
         let name = String::from_str(alloc, name)?;
         files.push((name, Vec::from_slice(alloc, text.as_bytes())?))?;
     }
     Ok(files)
 }
 
-// With ample memory each row has its status, which is never that of want of memory.
-fn answers<R: Threads + Abort>(rt: &R, alloc: Global, row: &Row) -> Result<(), Fail> {
+/// With ample memory each row has its status, which is never that of want of memory.
+pub fn answers<R: Threads + Abort>(
+    rt: &R,
+    alloc: Global,
+    named: &[(&str, &str)],
+    row: &Row,
+) -> Result<(), Fail> {
     let mut words = Vec::new(alloc);
     for word in row.words {
         words.push(String::from_str(alloc, word)?)?;
     }
-    let mut files = MemFiles::of(alloc, held(alloc)?, Vec::new(alloc));
+    let mut files = MemFiles::of(alloc, held(alloc, named)?, Vec::new(alloc));
     let mut out = MemSink::of(alloc, Vec::new(alloc), 1000);
     let mut err = MemSink::of(alloc, Vec::new(alloc), 1000);
     let status = run(rt, alloc, &words, &mut files, &mut out, &mut err, &OpenGate);
@@ -193,7 +200,7 @@ fn answers<R: Threads + Abort>(rt: &R, alloc: Global, row: &Row) -> Result<(), F
 #[test]
 fn sets_are_made_and_written(rt: HostRuntime) -> Result<(), Fail> {
     for row in &SETS {
-        answers(&rt, rt.alloc(), row)?;
+        answers(&rt, rt.alloc(), &FILES, row)?;
     }
     Ok(())
 }
@@ -201,7 +208,7 @@ fn sets_are_made_and_written(rt: HostRuntime) -> Result<(), Fail> {
 #[test]
 fn sets_are_refused_in_order(rt: HostRuntime) -> Result<(), Fail> {
     for row in &REFUSED {
-        answers(&rt, rt.alloc(), row)?;
+        answers(&rt, rt.alloc(), &FILES, row)?;
     }
     Ok(())
 }

@@ -359,7 +359,7 @@ const NO_FORMS: [&[&str]; 25] = [
 const NO_TOOLS: [&[&str]; 5] = [
     &[],
     &["cubdiff", "q", "q"],
-    &["homchain", "q"],
+    &["homchains", "q"],
     &["--help"],
     &["homcubesq", "q"],
 ];

@@ -15,6 +15,8 @@ pub enum Tool {
     Cubnbhd,
     /// The cells of a set.
     Cubcells,
+    /// The homology of a chain complex.
+    Homchain,
 }
 
 /// An option of a tool.
@@ -37,6 +39,7 @@ impl Tool {
             "cubinter" => Some(Tool::Cubinter),
             "cubnbhd" => Some(Tool::Cubnbhd),
             "cubcells" => Some(Tool::Cubcells),
+            "homchain" => Some(Tool::Homchain),
             _ => None,
         }
     }
@@ -51,6 +54,7 @@ impl Tool {
             Tool::Cubinter => "cubinter",
             Tool::Cubnbhd => "cubnbhd",
             Tool::Cubcells => "cubcells",
+            Tool::Homchain => "homchain",
         }
     }
 
@@ -59,7 +63,7 @@ impl Tool {
         ensures { result ≡ (form_of self).fewest }
     {
         match self {
-            Tool::Homcubes | Tool::Cubnbhd | Tool::Cubcells => 1,
+            Tool::Homcubes | Tool::Cubnbhd | Tool::Cubcells | Tool::Homchain => 1,
             Tool::Cubunion | Tool::Cubinter => 2,
         }
     }
@@ -70,7 +74,7 @@ impl Tool {
     {
         match self {
             Tool::Homcubes | Tool::Cubunion | Tool::Cubinter => 2,
-            Tool::Cubnbhd | Tool::Cubcells => 1,
+            Tool::Cubnbhd | Tool::Cubcells | Tool::Homchain => 1,
         }
     }
 
@@ -79,7 +83,7 @@ impl Tool {
         ensures { result ≡ option_named self word.now }
     {
         match self {
-            Tool::Homcubes => match word {
+            Tool::Homcubes | Tool::Homchain => match word {
                 "--mod" => Some(Choice::Modulus),
                 "--cycles" => Some(Choice::Cycles),
                 _ => None,

@@ -1,7 +1,6 @@
 use Rattle.std.proofs.Common.{◌≡◌, map, take}
-use Rattle.cell_complex.specs.Numbering.{cell_terms}
 use Rattle.homology_basis.specs.Bases.{in_degree}
 use Rattle.chomp.proofs.bases.cycles_in.Given as goal
 
 abbrev pub invariant-loop-number : goal.invariant-loop-number
-invariant-loop-number g l = l.cycles.items ≡ map (cell_terms l.cells) (take l.number (in_degree l.basis.cycles l.degree))
+invariant-loop-number g l = l.cycles.items ≡ map (g.N.Naming.names l.naming l.degree) (take l.number (in_degree l.basis.cycles l.degree))

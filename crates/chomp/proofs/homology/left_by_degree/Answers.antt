@@ -1,7 +1,8 @@
 use Rattle.std.proofs.Common.{◌≡◌, ℕ, ◌+◌, ◌<◌, ◌≤◌, length, get_or, arith, sym, ap, ◌∙◌, subst, Vec, replicate, set}
 use Rattle.std.proofs.lemmas.List.{get_or_default}
+use Rattle.chains.specs.ChainComplex.{ChainComplex}
 use Rattle.chomp.specs.Counting.{Counts}
-use Rattle.chomp.proofs.Counting.{no_counts, count_stays, count_grows, degree_of}
+use Rattle.chomp.proofs.Counting.{no_counts, count_stays, count_grows}
 use Rattle.chomp.proofs.homology.left_by_degree.Goals as goal
 use Rattle.chomp.proofs.homology.left_by_degree.Goals.{then-alive+then-degree-len, else-alive, else-alive-via-then-alive+else-degree-len, else-alive-via-else-alive}
 
@@ -13,9 +14,8 @@ loop-number-preserved g c =
     let K = c.args.log.now.complex in
     let ss = c.args.log.now.steps in
     let i : ℕ = c.loop-number.number in
-    let d : ℕ = c.dim-degree.result in
-    let inside : i < length c.args.cells.now = omega (arith, c.loop-number-test.true, c.len-number-end.ensures.count) in
-    let degree : get_or K.degrees i 0 ≡ d = degree_of g.row.P K c.args.cells.now i d c.cell.result c.requires inside c.cell.ensures c.dim-degree.ensures.dimension in
+    let d : ℕ = c.from-degree.result in
+    let degree : get_or K.degrees i 0 ≡ d = ap (λ (k : ChainComplex). get_or k.degrees i 0) (sym c.complex-complex.ensures) ∙ sym c.degree.ensures.value ∙ sym c.from-degree.ensures in
     let inv : Counts K ss c.args.most i c.loop-number.counts.items = c.loop-number.invariant in
     elim c.if-alive.branch [
       | then-alive+then-degree-len w ↦ count_grows K ss c.args.most i d c.loop-number.counts.items c.if-alive.counts.items degree (c.alive.ensures.0 w.if-alive.true) (omega (arith, w.if-degree-len.true, w.len.ensures, c.loop-number.counts.ok.0))
@@ -29,11 +29,14 @@ loop-number-preserved g c =
 
 pub overflow_add-index_mut : goal.overflow_add-index_mut
 overflow_add-index_mut g c =
-    let d : ℕ = c.dim-degree.result in
+    let d : ℕ = c.from-degree.result in
     let inside : d < length c.loop-number.counts.items = omega (arith, c.if-degree-len.true, c.len.ensures, c.loop-number.counts.ok.0) in
     let now : c.index_mut.result.now ≡ get_or c.loop-number.counts.items d 0 = c.index_mut.ensures.value ∙ get_or_default c.loop-number.counts.items d c.index_mut.result.now 0 inside in
     let few : get_or c.loop-number.counts.items d 0 ≤ c.loop-number.number = (c.loop-number.invariant.each d (omega (arith, inside, c.loop-number.invariant.degrees))).few in
     omega (arith, now, few, c.loop-number-test.true, c.len-number-end.type_inv)
 
-pub returns-clause-counts : goal.returns-clause-counts
-returns-clause-counts g c = subst (λ (n : ℕ). Counts c.args.log.now.complex c.args.log.now.steps c.args.most n c.loop-number.counts.items) (omega (arith, c.loop-number-test.false, c.loop-number.auto.number-end, c.len-number-end.ensures.count)) c.loop-number.invariant
+pub returns : goal.returns
+returns g c =
+    let size : length c.complex-complex.result.now.boundaries ≡ length c.args.log.now.complex.boundaries = ap (λ (k : ChainComplex). length k.boundaries) c.complex-complex.ensures in
+    subst (λ (n : ℕ). Counts c.args.log.now.complex c.args.log.now.steps c.args.most n c.loop-number.counts.items)
+    (omega (arith, c.loop-number-test.false, c.loop-number.auto.number-end, c.len-number-end.ensures.count, size)) c.loop-number.invariant

@@ -4,7 +4,7 @@ use Rattle.chomp.specs.declared.tool.Choice.TheVariants.{Modulus, Cycles}
 use Rattle.chomp.specs.Forms.{named}
 use Rattle.chomp.specs.Words.{modulus_named}
 use Rattle.chomp.proofs.Tables.{modulus_at}
-use Rattle.chomp.proofs.homcubes.modulus_in.Goals as goal
+use Rattle.chomp.proofs.options.modulus_in.Goals as goal
 
 pub returns-in-Some : goal.returns-in-Some
 returns-in-Some c =
