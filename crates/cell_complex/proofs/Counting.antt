@@ -24,7 +24,7 @@ use Rattle.grid_files.proofs.Covering.{cells_are_faces}
 use Rattle.cell_complex.specs.RelativeComplex.{is_relative}
 use Rattle.cell_complex.specs.Sorted.{IsSortedCells, without}
 use Rattle.cell_complex.specs.Numbering.{IsListing}
-use Rattle.cell_complex.specs.Gathering.{cell_count}
+use Rattle.cell_complex.specs.CellCount.{cell_count}
 use Rattle.cell_complex.proofs.Deciding.{has_cell, has_is, has_from, from_has, either_cell}
 use Rattle.cell_complex.proofs.Sorting.{apart}
 

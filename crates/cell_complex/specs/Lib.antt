@@ -2,5 +2,5 @@ pub mod RelativeComplex
 pub mod Sorted
 pub mod Numbering
 pub mod Boundaries
-pub mod Gathering
+pub mod CellCount
 pub mod Laws

@@ -5,7 +5,7 @@ ghost use Rattle.elem_cubes.specs.Order.{cell_cmp};
 ghost use Rattle.grid_files.specs.Closures.{cells_of};
 ghost use Rattle.cell_complex.specs.RelativeComplex.{is_relative};
 ghost use Rattle.cell_complex.specs.Numbering.{IsListing, IsOfPair};
-ghost use Rattle.cell_complex.specs.Gathering.{cell_count};
+ghost use Rattle.cell_complex.specs.CellCount.{cell_count};
 ghost use Rattle.cell_complex.specs.Sorted.{without};
 
 use crate::fault::CellsFault;

@@ -21,7 +21,7 @@ use Rattle.std.specs.Option.{option_and_then}
 use Rattle.elem_cubes.specs.Cells.{Factor}
 use Rattle.grid_files.specs.Closures.{cells_of}
 use Rattle.grid_files.specs.Neighbours.{neighbours_of, are_in_range}
-use Rattle.cell_complex.specs.Gathering.{cell_count}
+use Rattle.cell_complex.specs.CellCount.{cell_count}
 use Rattle.chomp.specs.declared.tool.Tool.{Tool}
 use Rattle.chomp.specs.Combining.{combined_of}
 use Rattle.chomp.specs.Forms.{tool_named, form_read}

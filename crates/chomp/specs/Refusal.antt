@@ -11,7 +11,7 @@ use Rattle.grid_files.specs.declared.fault.TextCause.TheVariants as texts
 use Rattle.elem_cubes.specs.Cells.{Factor}
 use Rattle.grid_files.specs.Closures.{cells_of}
 use Rattle.grid_files.specs.Neighbours.{neighbours_of, are_in_range}
-use Rattle.cell_complex.specs.Gathering.{cell_count}
+use Rattle.cell_complex.specs.CellCount.{cell_count}
 use Rattle.chain_files.specs.Content.{Content}
 use Rattle.chain_files.specs.ChainFile as chains
 use Rattle.chain_files.specs.Complexes.{SquaresToZero, IsNotComplexAt}

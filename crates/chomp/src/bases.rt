@@ -1,6 +1,6 @@
 //! The homology of a complex with the cycles of a basis.
 ghost use Rattle.std.specs.Prelude.{◌≡◌, ◌<◌, ◌≤◌, ◌+◌, ◌++◌, ℕ, [], map, length, slice_index_or, IfOk, OnOk, Err};
-ghost use Rattle.cell_complex.specs.Gathering.{cell_count};
+ghost use Rattle.cell_complex.specs.CellCount.{cell_count};
 ghost use Rattle.homology_basis.specs.Bases.{in_degree};
 ghost use Rattle.chomp.specs.Right.{IsRightPair};
 ghost use Rattle.chomp.specs.ByDegree.{AreByDegree};

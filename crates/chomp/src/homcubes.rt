@@ -1,6 +1,6 @@
 //! The tool `homcubes`: the homology of a set or a pair.
 ghost use Rattle.std.specs.Prelude.{◌≡◌, ◌<◌, ◌≤◌, ◌+◌, ◌*◌, ◌∷◌, ◌++◌, ◌⊎◌, [], length, Some, IfOk, IfErr, IfSome, OnOk, Ok, Err};
-ghost use Rattle.cell_complex.specs.Gathering.{cell_count};
+ghost use Rattle.cell_complex.specs.CellCount.{cell_count};
 ghost use Rattle.report.specs.ReportText.{HasText};
 ghost use Rattle.chomp.specs.Words.{formed, homcubes_job, and_subset};
 ghost use Rattle.chomp.specs.Inputs.{of_pair};

@@ -1,6 +1,6 @@
 //! The dimensions of homology.
 ghost use Rattle.std.specs.Prelude.{◌≡◌, ◌<◌, ◌≤◌, ◌++◌, length, IfOk, OnOk, Err};
-ghost use Rattle.cell_complex.specs.Gathering.{cell_count};
+ghost use Rattle.cell_complex.specs.CellCount.{cell_count};
 ghost use Rattle.chomp.specs.Right.{HasDimensions};
 ghost use Rattle.chains.specs.ChainComplex.{IsComplex};
 ghost use Rattle.chomp.specs.Counting.{Counts, HasBases};

@@ -65,6 +65,8 @@ fn words_of(rt: &HostRuntime) -> Result<Vec<String>, Fault> {
 #[cfg(test)]
 mod chain_tests;
 #[cfg(test)]
+mod memory_tests;
+#[cfg(test)]
 mod set_tests;
 #[cfg(test)]
 mod tests;

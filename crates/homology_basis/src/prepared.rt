@@ -1,7 +1,7 @@
 //! The relative complex of a pair, reduced.
 ghost use Rattle.std.specs.Prelude.{◌≡◌, ◌<◌, ◌≤◌, ◌++◌, IfOk, OnOk, Err};
 ghost use Rattle.algebraic_reduction.specs.Laws.{NothingLeft};
-ghost use Rattle.cell_complex.specs.Gathering.{cell_count};
+ghost use Rattle.cell_complex.specs.CellCount.{cell_count};
 ghost use Rattle.cell_complex.specs.Numbering.{IsRelativeComplex};
 
 use algebraic_reduction::Log;
