@@ -1,8 +1,9 @@
 -- A list of steps on a complex reduces it.
-use Rattle.std.proofs.Common.{◌+◌, arith, length}
+use Rattle.std.proofs.Common.{◌+◌, arith, length, ⊎_elim}
+use Rattle.std.proofs.lemmas.Bool.{cases_lt}
 use Rattle.chains.specs.ChainComplex.{incidence}
 use Rattle.algebraic_reduction.specs.Laws.{StepsAreReductions}
-use Rattle.algebraic_reduction.proofs.Bridge.{grade, grade_in, is_boundary, to_grade, of_grade}
+use Rattle.algebraic_reduction.proofs.Bridge.{grade, grade_in, grade_past, is_boundary, to_grade, of_grade}
 use Rattle.algebraic_reduction.proofs.Steps.{project_all-same, include_all-same, homotopy_all-same, log_identity, log_round_trip, log_include-boundary, log_project-boundary, project-off_all, project-degree, include-degree}
 use Rattle.algebraic_reduction.proofs.Linear.{project_all-linear, include_all-linear, homotopy_all-linear, homotopy-degree, steps_apart, paired_dead, left_all_is_boundary}
 
@@ -18,6 +19,10 @@ steps_are_reductions p K ss two c l =
       apart = steps_apart p n d two D ss bd l;
       left_squares_to_zero = lb.squares_to_zero;
       left_lowers = λ h k inside e. of_grade p k K _ c.sizes (λ g f. lb.lowers h g (λ q. f (let a = grade_in K.degrees h (omega (arith, c.sizes)) in omega arith)));
+      left_bottom = λ h inside e g. lb.lowers h g (λ q. let a = grade_in K.degrees h (omega (arith, c.sizes)) in ⊎_elim
+          (λ l. let b = grade_in K.degrees g l in omega arith)
+          (λ l. let b = grade_past K.degrees g l in omega arith)
+          (cases_lt g (length K.degrees)));
       left_on_left = λ h g w. let v = paired_dead p n d two D ss g bd l w in ((v.column h), (v.row h));
       project_linear = project_all-linear p n d two D ss bd l;
       project_same = project_all-same p n d two D ss bd l;

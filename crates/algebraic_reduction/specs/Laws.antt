@@ -48,6 +48,7 @@ pub record IsReduction (p : ℕ) (K : ChainComplex) (ss : List Step) : Type 0 wh
   pub apart : AreApart ss
   pub left_squares_to_zero : (h g : ℕ) → Same p (left_boundary_of p K ss (left_of p K ss h) g) 0
   pub left_lowers : (h : ℕ) (k : ℕ) → h < length K.boundaries → slice_index K.degrees h ≡ k + 1 → IsChain p (system K) k (left_of p K ss h)
+  pub left_bottom : (h : ℕ) → h < length K.boundaries → slice_index K.degrees h ≡ 0 → (g : ℕ) → Same p (left_of p K ss h g) 0
   pub left_on_left : (h g : ℕ) → ¬ IsUnpaired ss g → Same p (left_of p K ss h g) 0 × Same p (left_of p K ss g h) 0
   pub project_linear : IsLinear p (project_of p K ss)
   pub project_same : (x y : ℕ → ℕ) → ((g : ℕ) → Same p (x g) (y g)) → (g : ℕ) → Same p (project_of p K ss x g) (project_of p K ss y g)
