@@ -1,5 +1,5 @@
 -- From the loading of a tool's files and the report on them to what is said of its command.
-use Rattle.std.proofs.Common.{◌≡◌, ℕ, Bool, List, [], ◌∷◌, Option, None, Some, Result, Ok, Err, IfOk, IfErr, IfSome, OnOk, refl, sym, subst, ◌⊎◌, inl, inr, ap}
+use Rattle.std.proofs.Common.{◌≡◌, ℕ, Bool, List, [], ◌∷◌, Option, Result, Ok, Err, IfOk, IfErr, IfSome, OnOk, refl, sym, subst, ◌⊎◌, inl, inr}
 use Rattle.outside.specs.Disk.{Disk}
 use Rattle.chain_files.specs.Content.{Content}
 use Rattle.chain_files.specs.declared.fault.ChainCause.{ChainCause}
@@ -82,6 +82,10 @@ module _ (job : Job) (disk : Option Disk) (before now : List ℕ → ℕ) (had h
     pub chain_report : (r : Result Report Fault) → IfOk r (λ report. (content : Content) × IsContentOf job.options.modulus job.file text (Ok content) × IsRightAsShown job.options.cycles (of_chain_file job.options.modulus content) report)
         → IfOk r (IsReportOf (Homchain job) disk)
     chain_report (Err fault) h = tt
-    chain_report (Ok report) (content, is, right) =
-        (of_chain_file job.options.modulus content, some_map (λ disk. reading disk file_bytes job.file ≡ Ok text) (λ disk. IsInputOf (Homchain job) (reading disk) (Ok (of_chain_file job.options.modulus content))) disk
-        (λ d r. (content, (text, sym r, is), refl)) read, refl, right)
+    chain_report (Ok report) (content, is, right) = (
+      of_chain_file job.options.modulus content,
+      some_map (λ disk. reading disk file_bytes job.file ≡ Ok text) (λ disk. IsInputOf (Homchain job) (reading disk) (Ok (of_chain_file job.options.modulus content))) disk
+          (λ d r. (content, (text, sym r, is), refl)) read,
+      refl,
+      right,
+    )

@@ -16,7 +16,10 @@ const FILES: [(&str, &str); 14] = [
         "n",
         "chain complex\nmax dimension 2\ndimension 0: 1\ndimension 1: 1\n# 1 = 1 * 1\ndimension 2: 1\n# 1 = 1 * 1\n",
     ),
-    ("none", "chain complex max dimension 1 dimension 0: 0 dimension 1: 0"),
+    (
+        "none",
+        "chain complex max dimension 1 dimension 0: 0 dimension 1: 0",
+    ),
     // The cycles are the multiples of twice the first generator of degree 1 and the second.
     (
         "round",
@@ -24,7 +27,10 @@ const FILES: [(&str, &str); 14] = [
          # 1 = -1 * 1 + 1 * 2 # 2 = 2 * 1 + -2 * 2 # 3 = 1 * 2",
     ),
     // A degree without generators between two.
-    ("gap", "chain complex max dimension 2 dimension 0: 1 dimension 1: 0 dimension 2: 2"),
+    (
+        "gap",
+        "chain complex max dimension 2 dimension 0: 1 dimension 1: 0 dimension 2: 2",
+    ),
     (
         "seven",
         "chain complex max dimension 2 dimension 0: 3 dimension 1: 2 # 2 = 3 * 3 dimension 2: 1 # 1 = 2 * 2",
@@ -33,9 +39,18 @@ const FILES: [(&str, &str); 14] = [
     ("word", "chain complexes"),
     ("top", "chain complex max dimension 64"),
     ("open", "chain complex max dimension 1 dimension 0: 1"),
-    ("unknown", "chain complex max dimension 1 dimension 0: 1 dimension 1: 1 # 2 = 0"),
-    ("again", "chain complex max dimension 1 dimension 0: 1 dimension 1: 1 # 1 = 0 # 1 = 0"),
-    ("many", "chain complex max dimension 1 dimension 0: 1048576 dimension 1: 1"),
+    (
+        "unknown",
+        "chain complex max dimension 1 dimension 0: 1 dimension 1: 1 # 2 = 0",
+    ),
+    (
+        "again",
+        "chain complex max dimension 1 dimension 0: 1 dimension 1: 1 # 1 = 0 # 1 = 0",
+    ),
+    (
+        "many",
+        "chain complex max dimension 1 dimension 0: 1048576 dimension 1: 1",
+    ),
     ("most", "chain complex max dimension 0 dimension 0: 1048576"),
 ];
 

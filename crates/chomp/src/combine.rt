@@ -51,7 +51,7 @@ pub struct TwoSets {
 
 impl Model for TwoSets {
     ghost use Rattle.chomp.specs.Inputs.{of_two_sets};
-ghost use Rattle.chomp.specs.Combining.{Operands, AreOperands};
+    ghost use Rattle.chomp.specs.Combining.{Operands, AreOperands};
 
     ghost Value = { Operands };
 

@@ -46,10 +46,7 @@ pub fn asked(alloc: Global, arguments: &Arguments) -> Result<Job, Fault>
     match arguments.operands() {
         [file] => {
             let file = copied(alloc, file)?;
-            Ok(Job {
-                file,
-                options,
-            })
+            Ok(Job { file, options })
         }
         _ => Err(not_a_form(alloc, Tool::Homchain)),
     }
@@ -112,25 +109,20 @@ fn load<const P: u16>(
     match read_complex(alloc, field, bytes) {
         Ok(file) => Ok(file),
         Err(ChainFault::At { place, cause }) => Err(chain_fault(alloc, name, place, cause)),
-        Err(ChainFault::NotComplex {
-            degree,
-            generator,
-            at,
-            value,
-        }) => Err(not_complex(alloc, name, degree, generator, at, value)),
+        Err(
+            ChainFault::NotComplex {
+                degree,
+                generator,
+                at,
+                value,
+            },
+        ) => Err(not_complex(alloc, name, degree, generator, at, value)),
         Err(ChainFault::NoMemory) => Err(Fault::OutOfMemory),
     }
 }
 
 // The refusal of a file whose boundary of a boundary is not 0.
-fn not_complex(
-    alloc: Global,
-    name: &Name,
-    degree: u8,
-    generator: u32,
-    at: u32,
-    value: u16,
-) -> Fault
+fn not_complex(alloc: Global, name: &Name, degree: u8, generator: u32, at: u32, value: u16) -> Fault
     ensures { (result ≡ Fault.NotComplex name.now degree generator value at) ⊎ (result ≡ Fault.OutOfMemory) }
 {
     match name.copy(alloc) {

@@ -71,11 +71,7 @@ pub fn dimensions_of<const P: u16>(
 }
 
 // How many generators are in no step, by degree from 0 to `most`.
-fn left_by_degree<const P: u16>(
-    alloc: Global,
-    log: &Log<P>,
-    most: u8,
-) -> Result<Vec<u32>, NoMemory>
+fn left_by_degree<const P: u16>(alloc: Global, log: &Log<P>, most: u8) -> Result<Vec<u32>, NoMemory>
     ensures { IfOk result (λ counts. Counts log.now.complex log.now.steps most (length log.now.complex.boundaries) counts.items) }
 {
     let complex = log.complex();

@@ -18,12 +18,7 @@ pub trait Naming<G> {
     ghost can_name: { Self → ℕ → List (ℕ × ℕ) → Type 0 };
 
     /// The terms of a chain of this degree, with names in place of numbers.
-    fn named(
-        &self,
-        alloc: Global,
-        degree: u8,
-        terms: &[(u32, u16)],
-    ) -> Result<Terms<G>, NoMemory>
+    fn named(&self, alloc: Global, degree: u8, terms: &[(u32, u16)]) -> Result<Terms<G>, NoMemory>
         requires { can_name self.now degree terms.now }
         ensures { IfOk result (λ chain. chain ≡ names self.now degree terms.now) };
 }
