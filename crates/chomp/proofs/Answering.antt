@@ -14,7 +14,6 @@ use Rattle.report.specs.ReportText.{report_text}
 use Rattle.chomp.specs.declared.status.Status.{Status}
 use Rattle.chomp.specs.declared.status.Status.TheVariants as statuses
 use Rattle.chomp.specs.declared.command.Command.{Command}
-use Rattle.chomp.specs.declared.command.Command.TheVariants as commands
 use Rattle.chomp.specs.Inputs.{Input, of_pair, of_two_sets, of_full_cubes, of_set, of_chain_file}
 use Rattle.chomp.specs.Statuses.{status_of}
 use Rattle.std.specs.Option.{option_and_then}

@@ -1,10 +1,7 @@
 -- One more generator is counted.
 use Rattle.std.proofs.Common.{◌≡◌, ◌≢◌, ℕ, ◌+◌, ◌<◌, ◌≤◌, refl, sym, ap, ◌∙◌, arith, ⊎_elim, List, [], length, get_or, set, replicate, cond, eqb, eq-eqb, ne_eqb, subst, length-set, get_or-set_same, get_or-set_other}
 use Rattle.std.proofs.lemmas.Bool.{cases_eq}
-use Rattle.std.proofs.lemmas.List.{length-replicate, get_or-replicate, get_or-map}
-use Rattle.elem_cubes.specs.Cells.{Factor, dimension_of}
-use Rattle.elem_cubes.specs.Laws.{cell_at}
-use Rattle.cell_complex.specs.Numbering.{IsComplexOf}
+use Rattle.std.proofs.lemmas.List.{length-replicate, get_or-replicate}
 use Rattle.chains.specs.ChainComplex.{ChainComplex}
 use Rattle.algebraic_reduction.specs.Reduction.{Step, IsUnpaired}
 use Rattle.algebraic_reduction.specs.Laws.{IsLeft}
@@ -113,7 +110,3 @@ module _ (K : ChainComplex) (ss : List Step) where
     once = h.once;
     all = λ g l. h.all g (subst (λ (n : ℕ). g < n) (sym e) l);
   }
-
--- the degree of a generator is the dimension of its cell
-pub degree_of : (p : ℕ) (K : ChainComplex) (cells : List (List Factor)) (i d : ℕ) (q : List Factor) → IsComplexOf p cells K → i < length cells → q ≡ cell_at cells i → d ≡ dimension_of q → get_or K.degrees i 0 ≡ d
-degree_of p K cells i d q h l e f = ap (λ ds. get_or ds i 0) h.degrees ∙ get_or-map dimension_of cells i [] 0 l ∙ sym (f ∙ ap dimension_of e)

@@ -10,7 +10,7 @@ use Rattle.field_mod.proofs.Table.{two_le}
 use Rattle.elem_cubes.specs.Cells.{Factor}
 use Rattle.chains.specs.Terms.{coefficient, nth_chain, IsNormalWithin}
 use Rattle.chains.specs.Homology.{IsNull, IsBasis, combination}
-use Rattle.chains.specs.ChainComplex.{ChainComplex, IsComplex, IsBasisOf, system}
+use Rattle.chains.specs.ChainComplex.{ChainComplex, IsComplex, system}
 use Rattle.chains.proofs.TermLists.{coefficient-above}
 use Rattle.chains.proofs.Systems.{null-zero, null-same}
 use Rattle.chains.proofs.Numbered.{is_boundary_operator}

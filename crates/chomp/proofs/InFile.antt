@@ -1,13 +1,12 @@
 -- Cycles of the complex of a chain file, with the numbers of the generators in their degrees.
 use Rattle.std.proofs.Common.{◌≡◌, ◌≢◌, ℕ, zero, suc, ◌+◌, ◌-◌, ◌<◌, ◌≤◌, refl, sym, ap, ◌∙◌, arith, ⊎_elim, List, [], ◌∷◌, length, get_or, map, take, cond, eqb, eq-eqb, ne_eqb, subst}
-use Rattle.std.proofs.lemmas.Bool.{cases_lt, cases_eq, le-ltb}
+use Rattle.std.proofs.lemmas.Bool.{cases_lt, cases_eq}
 use Rattle.std.proofs.lemmas.List.{take_all, get_or_past}
-use Rattle.field_mod.specs.Modular.{Same}
 use Rattle.field_mod.specs.Moduli.{IsModulus}
 use Rattle.chains.specs.Terms.{coefficient, nth_chain, IsNormalWithin}
 use Rattle.chains.specs.Homology.{IsBasis}
-use Rattle.chains.specs.ChainComplex.{ChainComplex, IsComplex, IsBasisOf, system}
-use Rattle.chains.proofs.TermLists.{coefficient-above, low-le-high}
+use Rattle.chains.specs.ChainComplex.{IsComplex, system}
+use Rattle.chains.proofs.TermLists.{coefficient-above}
 use Rattle.chain_files.specs.Content.{Content}
 use Rattle.chain_files.specs.Complexes.{FileComplex, IsFileComplex, AreByDegree as AreNumbered, count_in, count_below, number_in_degree, chain_in_degree, listed}
 use Rattle.chain_files.proofs.Alike.{bases_of_the_file}

@@ -1,5 +1,5 @@
 -- Cycles of a basis are chains in normal form on the generators of its complex.
-use Rattle.std.proofs.Common.{◌≡◌, ℕ, zero, suc, ◌+◌, ◌<◌, ◌≤◌, ◌^◌, ◌∷◌, refl, sym, arith, List, [], length, get_or, subst}
+use Rattle.std.proofs.Common.{◌≡◌, ℕ, zero, suc, ◌+◌, ◌<◌, ◌≤◌, ◌^◌, ◌∷◌, refl, arith, List, [], length, get_or}
 use Rattle.std.proofs.lemmas.Bool.{le-ltb}
 use Rattle.field_mod.specs.Modular.{Same}
 use Rattle.chains.specs.Terms.{coefficient, IsNormalWithin}

@@ -1,5 +1,5 @@
 -- From the loading of a tool's files and the report on them to what is said of its command.
-use Rattle.std.proofs.Common.{◌≡◌, ℕ, Bool, List, [], ◌∷◌, Option, None, Some, Result, Ok, Err, IfOk, IfErr, IfSome, OnOk, refl, sym, subst, ◌⊎◌, inl, inr, ap}
+use Rattle.std.proofs.Common.{◌≡◌, ℕ, Bool, List, [], ◌∷◌, Option, Result, Ok, Err, IfOk, IfErr, IfSome, OnOk, refl, sym, subst, ◌⊎◌, inl, inr}
 use Rattle.outside.specs.Disk.{Disk}
 use Rattle.chain_files.specs.Content.{Content}
 use Rattle.chain_files.specs.declared.fault.ChainCause.{ChainCause}

@@ -1,5 +1,5 @@
 -- The first entry of a list with a name, and whether each entry of a list stands once, entry by entry.
-use Rattle.std.proofs.Common.{◌≡◌, ℕ, zero, suc, ◌+◌, ◌<◌, Bool, true, false, cond, ◌||◌, ◌-◌, List, [], ◌∷◌, length, get_or, drop, take, length-drop, Option, Some, refl, sym, ap, ◌∙◌, arith, eqb, eq-eqb, decimal, bytes_eq}
+use Rattle.std.proofs.Common.{◌≡◌, ℕ, zero, suc, ◌+◌, ◌<◌, Bool, true, false, cond, ◌||◌, ◌-◌, List, [], ◌∷◌, length, get_or, drop, take, length-drop, Some, refl, sym, ap, ◌∙◌, arith, eqb, eq-eqb, decimal, bytes_eq}
 use Rattle.std.specs.List.{list_any}
 use Rattle.std.proofs.lemmas.List.{drop_more, take_all}
 use Rattle.chomp.specs.declared.arguments.Setting.{Setting}

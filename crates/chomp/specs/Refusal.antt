@@ -1,5 +1,6 @@
 -- What the words and the files are judged to be: the input of a command, or the first refusal. A step is a relation with its
--- outcome, which is a value or a refusal; of the steps only the grammar of the files is none that computes.
+-- outcome, which is a value or a refusal; of the steps only the grammars of the files, and whether what stands in a chain file is a
+-- complex, are none that compute.
 use Rattle.std.specs.Prelude.{◌≡◌, ◌⊎◌, ℕ, List, ◌++◌, Option, None, Some, Result, Ok, Err, nat_lt, if◌then◌else◌, length, unwrap_or}
 use Rattle.std.specs.Str.{bytes_eq}
 use Rattle.outside.specs.Disk.{Disk, content}

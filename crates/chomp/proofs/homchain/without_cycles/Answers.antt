@@ -1,6 +1,5 @@
-use Rattle.std.proofs.Common.{◌≡◌, ℕ, ◌∙◌, ap, sym, subst}
+use Rattle.std.proofs.Common.{ℕ, sym, subst}
 use Rattle.chains.specs.ChainComplex.{ChainComplex, IsComplex}
-use Rattle.chain_files.specs.Content.{Content}
 use Rattle.chomp.specs.Counting.{HasBases}
 use Rattle.chomp.specs.Right.{HasFileDimensions}
 use Rattle.chomp.proofs.RightPairs.{right_file}

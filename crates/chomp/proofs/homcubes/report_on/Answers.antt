@@ -1,4 +1,4 @@
-use Rattle.std.proofs.Common.{refl, [], ◌∷◌, inl}
+use Rattle.std.proofs.Common.{refl, ◌∷◌, inl}
 use Rattle.std.proofs.lemmas.Result.{err_from_is_err_and}
 use Rattle.chomp.specs.Words.{and_subset}
 use Rattle.chomp.specs.Refusal.{IsPairIn}
