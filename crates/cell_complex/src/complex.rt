@@ -11,8 +11,8 @@ use elem_cubes::Cell;
 use field_mod::Field;
 use std::alloc::{AllocError, Global};
 
-// Room for the two ends of each axis, where an axis is told by its bit.
-const ENDS: usize = 32;
+// Room for the two ends of each axis, where an axis is told by its bit in a byte.
+const ENDS: usize = 512;
 
 /// The chain complex whose generators are the numbers of the cells, which are the relative cells of a pair: the degree
 /// of a cell is its dimension, and its boundary is the cubical boundary among these cells.
@@ -70,8 +70,8 @@ fn boundaries_of<const P: u16>(
 fn end_of(cell: &Cell, facet: &Cell) -> usize
     ensures { result < ENDS }
 {
-    let axis = (cell.axes() ^ facet.axes()) % 16;
-    2 * axis as usize + usize::from(cell.lower() == facet.lower())
+    let axis = usize::from(cell.axes() ^ facet.axes());
+    2 * axis + usize::from(cell.lower() == facet.lower())
 }
 
 // The boundary of a cell, of which only terms at cells of the list count. The terms that `terms` holds are not kept. For each
