@@ -1,5 +1,5 @@
 -- Numbers at places, as entries with ascending keys: what is found at a place is the coefficient there.
-use Rattle.std.proofs.Common.{◌≡◌, ◌≢◌, ℕ, ◌+◌, ◌*◌, ◌%◌, ◌<◌, ◌≤◌, refl, sym, ap, ◌∙◌, arith, ⊎_elim, List, [], ◌∷◌, ◌++◌, length, get_or, take, cond, eqb, eq-eqb, ne_eqb, subst, Option, Some, None, Less, true}
+use Rattle.std.proofs.Common.{◌≡◌, ◌≢◌, ℕ, ◌+◌, ◌*◌, ◌%◌, ◌<◌, ◌≤◌, refl, sym, ap, ◌∙◌, arith, ⊎_elim, List, [], ◌∷◌, ◌++◌, length, get_or, take, cond, eqb, eq-eqb, ne_eqb, subst, Option, Some, None, Less, true, false}
 use Rattle.std.specs.Prelude.{unwrap_or, IfSome, IfNone}
 use Rattle.std.specs.List.{AllByRecursion}
 use Rattle.std.specs.List.Sorted.{IsStrictlySortedBy}
@@ -145,3 +145,33 @@ product_more p sum sum' m n k ts us t l et en em es h =
     let m1 : Same p m (t.1 * coefficient us t.0) = same_trans (reduced p _ _ em) (same-scale t.1 (same_by p 0 0 n (coefficient us t.0) (ap (λ v. v + p * 0) en))) in
     let m2 = subst (λ (v : ℕ × ℕ). Same p m (v.1 * coefficient us v.0)) et m1 in
     same_trans (reduced p _ _ es) (same_trans (same-add h m2) (same_by p 0 0 _ _ (ap (λ v. v + p * 0) (sym e))))
+
+-- ---- the same, going over the numbers
+
+product-none : (ts : List (ℕ × ℕ)) → product ts [] ≡ 0
+product-none [] = refl
+product-none (t ∷ ts) = let e = product-none ts in omega arith
+
+product-more : (us ts : List (ℕ × ℕ)) (t : ℕ × ℕ) → product us (t ∷ ts) ≡ t.1 * coefficient us t.0 + product us ts
+product-more [] ts t = omega arith
+product-more (u ∷ us) ts t =
+    let e = product-more us ts t in
+    let b : u.1 * cond (eqb t.0 u.0) t.1 0 ≡ t.1 * cond (eqb u.0 t.0) u.1 0 = ap (λ v. u.1 * cond v t.1 0) (eqb_sym t.0 u.0) ∙ elim (eqb u.0 t.0) as (λ v. u.1 * cond v t.1 0 ≡ t.1 * cond v u.1 0) [ true ↦ omega arith | false ↦ omega arith ] in
+    omega arith
+
+-- the product of two chains, the other way round
+pub product-turned : (ts us : List (ℕ × ℕ)) → product ts us ≡ product us ts
+product-turned [] us = sym (product-none us)
+product-turned (t ∷ ts) us = let e = product-turned ts us in let m = product-more us ts t in omega arith
+
+pub left_more : (p sum sum' m n : ℕ) (rest rest' us all : List (ℕ × ℕ)) (t : ℕ × ℕ) → rest ≡ t ∷ rest' → n ≡ coefficient us t.0 → m ≡ (n * t.1) % p → sum' ≡ (sum + m) % p → Same p (sum + product rest us) (product all us) → Same p (sum' + product rest' us) (product all us)
+left_more p sum sum' m n rest rest' us all t er en em es h =
+    let e : product rest us ≡ t.1 * coefficient us t.0 + product rest' us = ap (λ (xs : List (ℕ × ℕ)). product xs us) er in
+    let q : n * t.1 ≡ coefficient us t.0 * t.1 = ap (λ v. v * t.1) en in
+    let s1 : Same p sum' (sum + n * t.1) = same_trans (reduced p _ _ es) (same-add (same_refl p sum) (reduced p _ _ em)) in
+    same_trans (same-add s1 (same_refl p (product rest' us))) (same_trans (same_by p 0 0 _ _ (omega arith)) h)
+
+pub left_none : (p sum : ℕ) (rest us all : List (ℕ × ℕ)) → rest ≡ [] → Same p (sum + product rest us) (product all us) → Same p sum (product us all)
+left_none p sum rest us all er h =
+    let e : product rest us ≡ 0 = ap (λ (xs : List (ℕ × ℕ)). product xs us) er in
+    same_trans (same_by p 0 0 _ _ (omega arith)) (same_trans h (same_by p 0 0 _ _ (ap (λ v. v + p * 0) (product-turned all us))))

@@ -95,8 +95,20 @@ impl<const P: u16> Numbers<P> {
         self.kept.pop_first()
     }
 
-    /// The product of a chain with the numbers.
+    /// The product of a chain with the numbers. It looks up as many as the shorter of the two has.
     pub fn product(&self, field: Field<P>, chain: &Chain<P>) -> u16
+        ensures below { result < P }
+        ensures value { Same P result (product chain.now self.now) }
+    {
+        if self.kept.len() < chain.len() {
+            self.product_by_places(field, chain)
+        } else {
+            self.product_by_terms(field, chain)
+        }
+    }
+
+    // The same, going over the terms of the chain.
+    fn product_by_terms(&self, field: Field<P>, chain: &Chain<P>) -> u16
         ensures below { result < P }
         ensures value { Same P result (product chain.now self.now) }
     {
@@ -104,6 +116,18 @@ impl<const P: u16> Numbers<P> {
         for index in 0..chain.len() {
             let (place, number) = chain.term(index);
             sum = field.add(sum, field.mul(number, self.at(place)));
+        }
+        sum
+    }
+
+    // The same, going over the numbers.
+    fn product_by_places(&self, field: Field<P>, chain: &Chain<P>) -> u16
+        ensures below { result < P }
+        ensures value { Same P result (product chain.now self.now) }
+    {
+        let mut sum = 0;
+        for (place, number) in &self.kept {
+            sum = field.add(sum, field.mul(chain.coefficient(*place), *number));
         }
         sum
     }

@@ -89,20 +89,25 @@ fn segment(alloc: Global) -> Result<Complex<5>, Fail> {
     cells.complex(alloc)
 }
 
-/// The boundary of a square.
-fn circle<const P: u16>(alloc: Global) -> Result<Complex<P>, Fail> {
+/// So many vertices and these edges, each from a vertex to another.
+fn graph<const P: u16>(
+    alloc: Global,
+    vertices: u32,
+    edges: &[(u32, u32)],
+) -> Result<Complex<P>, Fail> {
     let mut cells = Cells::new(alloc);
-    for _vertex in 0..4 {
+    for _vertex in 0..vertices {
         cells.push(alloc, 0, &[])?;
     }
-    for edge in 0..4u32 {
-        cells.push(
-            alloc,
-            1,
-            &[(edge, P.saturating_sub(1)), ((edge + 1) % 4, 1)],
-        )?;
+    for (from, to) in edges {
+        cells.push(alloc, 1, &[(*from, P.saturating_sub(1)), (*to, 1)])?;
     }
     cells.complex(alloc)
+}
+
+/// The boundary of a square.
+fn circle<const P: u16>(alloc: Global) -> Result<Complex<P>, Fail> {
+    graph(alloc, 4, &[(0, 1), (1, 2), (2, 3), (3, 0)])
 }
 
 /// The number of the edge between two of so many vertices, any two of which span one; the vertices are numbered first.
@@ -338,6 +343,38 @@ fn further_steps_keep_the_first(rt: HostRuntime) -> Result<(), Fail> {
     let (dimensions, empty) = left(&log, count, &[0, 0, 0, 0, 1, 1, 1, 1]);
     assert!(rt; dimensions == [1, 1, 0]);
     assert!(rt; empty);
+    Ok(())
+}
+
+/// The first of the steps by which all of a complex is reduced, and their number.
+fn first_step<const P: u16>(alloc: Global, complex: Complex<P>) -> Result<((u32, u32), u32), Fail> {
+    let log = Log::start(alloc, complex)?.reduce_all(field()?)?;
+    let count = log.step_count();
+    if count == 0 {
+        return Err(Fail::from("a step"));
+    }
+    Ok((log.step(0), count))
+}
+
+// The last vertex is in one edge alone, the others in two or more.
+#[test]
+fn a_free_pair_comes_first(rt: HostRuntime) -> Result<(), Fail> {
+    let alloc = rt.alloc();
+    let complex = graph::<3>(alloc, 5, &[(0, 1), (1, 2), (2, 3), (3, 0), (0, 4)])?;
+    let (step, count) = first_step(alloc, complex)?;
+    assert_eq!(rt; step, (4, 9));
+    assert_eq!(rt; count, 4);
+    Ok(())
+}
+
+// Of the ends of the first edge one is in three edges and the other in two.
+#[test]
+fn the_shortest_column_comes_first(rt: HostRuntime) -> Result<(), Fail> {
+    let alloc = rt.alloc();
+    let complex = graph::<3>(alloc, 4, &[(0, 1), (1, 2), (2, 3), (3, 0), (0, 2)])?;
+    let (step, count) = first_step(alloc, complex)?;
+    assert_eq!(rt; step, (1, 4));
+    assert_eq!(rt; count, 3);
     Ok(())
 }
 

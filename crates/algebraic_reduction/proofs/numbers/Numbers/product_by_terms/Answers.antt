@@ -1,6 +1,6 @@
 use Rattle.std.proofs.Common.{arith, ◌<◌, length}
 use Rattle.algebraic_reduction.proofs.NumbersKept.{product_more}
-use Rattle.algebraic_reduction.proofs.numbers.Numbers.product.Goals as goal
+use Rattle.algebraic_reduction.proofs.numbers.Numbers.product_by_terms.Goals as goal
 
 pub loop-index-preserved : goal.loop-index-preserved
 loop-index-preserved g c =

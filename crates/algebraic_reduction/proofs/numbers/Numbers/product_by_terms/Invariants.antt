@@ -1,7 +1,7 @@
 use Rattle.std.proofs.Common.{◌<◌, take}
 use Rattle.field_mod.specs.Modular.{Same}
 use Rattle.chains.specs.Terms.{product}
-use Rattle.algebraic_reduction.proofs.numbers.Numbers.product.Given as goal
+use Rattle.algebraic_reduction.proofs.numbers.Numbers.product_by_terms.Given as goal
 
 abbrev pub invariant-loop-index : goal.invariant-loop-index
 invariant-loop-index g l = record {
