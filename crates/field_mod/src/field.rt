@@ -25,6 +25,13 @@ impl<const P: u16> Field<P> {
         }
     }
 
+    /// The field of a modulus that is known to be in the table.
+    pub fn of_table() -> Field<P>
+        requires { IsModulus P }
+    {
+        Field { seal: () }
+    }
+
     /// The sum of two elements.
     pub fn add(self, a: u16, b: u16) -> u16
         requires left { a < P }

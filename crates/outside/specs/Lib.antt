@@ -3,6 +3,7 @@ pub mod Told
 pub mod Handing
 pub mod Causes
 pub mod Disk
+pub mod Seen
 pub mod Memory
 pub mod Tokens
 pub mod Scanning

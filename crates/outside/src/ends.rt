@@ -3,6 +3,7 @@ ghost use Rattle.std.specs.Prelude.{◌≡◌, ◌≤◌, ◌^◌, List, ℕ, Op
 ghost use Rattle.outside.specs.Told.{Told, Writes};
 ghost use Rattle.outside.specs.Causes.{HasCause, NoneFell, CountsStalls, more};
 ghost use Rattle.outside.specs.Disk.{Disk, content, kept, Puts, MayPut, ReadsFrom};
+ghost use Rattle.outside.specs.Seen.{Seen};
 ghost use Rattle.outside.specs.declared.ends.Failed.{Failed};
 
 use thiserror::Error;
@@ -15,17 +16,9 @@ pub struct Failed;
 /// Files by name. An object may tell what they hold; where it does not tell before a call, it does not after it.
 /// No count of faults falls in a call, and a call says nothing else of the counts of another name.
 pub trait Files {
-    /// The files, where told.
-    ghost holds: { Self → Option Disk };
-
-    /// How often reads failed, for each name.
-    ghost read_faults: { Self → List ℕ → ℕ };
-
-    /// How often writes failed, for each name.
-    ghost write_faults: { Self → List ℕ → ℕ };
-
-    /// How many bytes the reads gave, up to `2 ^ 64 - 1`.
-    ghost given: { Self → ℕ };
+    /// What the files tell and count: what they hold, where told; how often reads failed, and writes, for each name; and how
+    /// many bytes the reads gave, up to `2 ^ 64 - 1`.
+    ghost seen: { Self → Seen };
 
     /// Fills a front of `buf` with the file's bytes from `at` on, which is at most `2 ^ 30`, and answers how many.
     /// An answer of 0 comes only at the end of the file or for an empty `buf`. A name that is not held fails, or reads as
@@ -33,23 +26,23 @@ pub trait Files {
     fn read_at(&mut self, name: &str, at: u64, buf: &mut [u8]) -> Result<usize, Failed>
         requires { at ≤ 2 ^ 30 }
         ensures bound { IfOk result (λ n. n ≤ length buf.new) }
-        ensures bytes { IfOk result (λ n. IfSome (holds self.old) (λ disk. ReadsFrom (content disk name.now) at n buf.new)) }
-        ensures holds { holds self.new ≡ holds self.old }
-        ensures cause { HasCause (read_faults self.old name.now) (read_faults self.new name.now) result }
-        ensures reads { NoneFell (read_faults self.old) (read_faults self.new) }
-        ensures writes { NoneFell (write_faults self.old) (write_faults self.new) }
-        ensures given { MatchResult result (λ n. given self.new ≡ more (given self.old) n) (λ _. given self.new ≡ given self.old) };
+        ensures bytes { IfOk result (λ n. IfSome (seen self.old).holds (λ disk. ReadsFrom (content disk name.now) at n buf.new)) }
+        ensures holds { (seen self.new).holds ≡ (seen self.old).holds }
+        ensures cause { HasCause ((seen self.old).read_faults name.now) ((seen self.new).read_faults name.now) result }
+        ensures reads { NoneFell (seen self.old).read_faults (seen self.new).read_faults }
+        ensures writes { NoneFell (seen self.old).write_faults (seen self.new).write_faults }
+        ensures given { MatchResult result (λ n. (seen self.new).given ≡ more (seen self.old).given n) (λ _. (seen self.new).given ≡ (seen self.old).given) };
 
     /// Adds a piece at the end of a file, which is made where it is not there, or makes the file anew with the piece.
     /// `Failed` comes only where `write_faults` of the name rose; the file then holds what it held, or what the call would
     /// have kept of it followed by a prefix of the piece. All other files stay in any case.
     fn append(&mut self, name: &str, piece: &[u8], first: bool) -> Result<(), Failed>
-        ensures put { OnOk result (Told (holds self.old) (holds self.new) (λ before now. Puts name.now (kept first before name.now ++ piece.now) before now)) }
-        ensures failed { OnErr result (Told (holds self.old) (holds self.new) (MayPut first name.now piece.now)) }
-        ensures cause { HasCause (write_faults self.old name.now) (write_faults self.new name.now) result }
-        ensures reads { NoneFell (read_faults self.old) (read_faults self.new) }
-        ensures writes { NoneFell (write_faults self.old) (write_faults self.new) }
-        ensures given { given self.new ≡ given self.old };
+        ensures put { OnOk result (Told (seen self.old).holds (seen self.new).holds (λ before now. Puts name.now (kept first before name.now ++ piece.now) before now)) }
+        ensures failed { OnErr result (Told (seen self.old).holds (seen self.new).holds (MayPut first name.now piece.now)) }
+        ensures cause { HasCause ((seen self.old).write_faults name.now) ((seen self.new).write_faults name.now) result }
+        ensures reads { NoneFell (seen self.old).read_faults (seen self.new).read_faults }
+        ensures writes { NoneFell (seen self.old).write_faults (seen self.new).write_faults }
+        ensures given { (seen self.new).given ≡ (seen self.old).given };
 }
 
 /// A sink of bytes. An object may tell what was written; where it does not tell before a write, it does not after it.

@@ -17,8 +17,8 @@ pub struct QuietFiles {
 impl QuietFiles {
     /// Files with distinct names. Takes no memory.
     pub fn of(files: Vec<(String, Vec<u8>)>) -> Self
-        ensures holds { ⟦<QuietFiles as Files>⟧.holds result ≡ Some (held string_bytes (λ b. b.items) files.items) }
-        ensures given { ⟦<QuietFiles as Files>⟧.given result ≡ 0 }
+        ensures holds { (⟦<QuietFiles as Files>⟧.seen result).holds ≡ Some (held string_bytes (λ b. b.items) files.items) }
+        ensures given { (⟦<QuietFiles as Files>⟧.seen result).given ≡ 0 }
     {
         QuietFiles {
             files,
@@ -29,13 +29,14 @@ impl QuietFiles {
 }
 
 impl Files for QuietFiles {
-    ghost holds = { λ m. if m.tells then Some (held string_bytes (λ b. b.items) m.files.items) else None };
-
-    ghost read_faults = { λ _ _. 0 };
-
-    ghost write_faults = { λ _ _. 0 };
-
-    ghost given = { λ m. m.given };
+    ghost seen = {
+        λ m. record {
+            holds = if m.tells then Some (held string_bytes (λ b. b.items) m.files.items) else None;
+            read_faults = λ _. 0;
+            write_faults = λ _. 0;
+            given = m.given;
+        }
+    };
 
     fn read_at(&mut self, name: &str, at: u64, buf: &mut [u8]) -> Result<usize, Failed> {
         let n = match place_of(&self.files, name) {

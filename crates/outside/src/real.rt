@@ -21,9 +21,9 @@ pub struct RealFiles<R: std::rt::Files + Drop> {
 impl<R: std::rt::Files + Drop> RealFiles<R> {
     /// All counts begin at 0. Takes no memory.
     pub fn of(rt: R) -> Self
-        ensures read_faults { ⟦<RealFiles<R> as Files>⟧.read_faults result ≡ (λ _. 0) }
-        ensures write_faults { ⟦<RealFiles<R> as Files>⟧.write_faults result ≡ (λ _. 0) }
-        ensures given { ⟦<RealFiles<R> as Files>⟧.given result ≡ 0 }
+        ensures read_faults { (⟦<RealFiles<R> as Files>⟧.seen result).read_faults ≡ (λ _. 0) }
+        ensures write_faults { (⟦<RealFiles<R> as Files>⟧.seen result).write_faults ≡ (λ _. 0) }
+        ensures given { (⟦<RealFiles<R> as Files>⟧.seen result).given ≡ 0 }
     {
         RealFiles {
             rt,
@@ -35,13 +35,14 @@ impl<R: std::rt::Files + Drop> RealFiles<R> {
 }
 
 impl<R: std::rt::Files + Drop> Files for RealFiles<R> {
-    ghost holds = { λ _. None };
-
-    ghost read_faults = { λ m _. m.read_faults };
-
-    ghost write_faults = { λ m _. m.write_faults };
-
-    ghost given = { λ m. m.given };
+    ghost seen = {
+        λ m. record {
+            holds = None;
+            read_faults = λ _. m.read_faults;
+            write_faults = λ _. m.write_faults;
+            given = m.given;
+        }
+    };
 
     // Each error counts once, and nothing else does.
     fn read_at(&mut self, name: &str, at: u64, buf: &mut [u8]) -> Result<usize, Failed>

@@ -36,16 +36,16 @@ pub fn read_whole<F: Files>(
     limit: u64,
 ) -> Result<Vec<u8>, ReadFault>
     requires { limit ≤ 2 ^ 30 }
-    ensures bytes { IfOk result (λ bytes. IfSome (F.holds files.old) (λ disk. bytes.items ≡ content disk name.now)) }
+    ensures bytes { IfOk result (λ bytes. IfSome (F.seen files.old).holds (λ disk. bytes.items ≡ content disk name.now)) }
     ensures within { IfOk result (λ bytes. length bytes.items ≤ limit) }
-    ensures counted { IfOk result (λ bytes. F.given files.new ≡ more (F.given files.old) (length bytes.items)) }
-    ensures failed { IsErrOf result ReadFault.Failed → Rose (F.read_faults files.old name.now) (F.read_faults files.new name.now) }
-    ensures too_long { IsErrOf result ReadFault.TooLong → IfSome (F.holds files.old) (λ disk. limit < length (content disk name.now)) }
-    ensures too_many { IsErrOf result ReadFault.TooLong → more (F.given files.old) (limit + 1) ≤ F.given files.new }
-    ensures given { F.given files.new ≤ F.given files.old + (limit + 1) }
-    ensures holds { F.holds files.new ≡ F.holds files.old }
-    ensures reads { NoneFell (F.read_faults files.old) (F.read_faults files.new) }
-    ensures writes { NoneFell (F.write_faults files.old) (F.write_faults files.new) }
+    ensures counted { IfOk result (λ bytes. (F.seen files.new).given ≡ more (F.seen files.old).given (length bytes.items)) }
+    ensures failed { IsErrOf result ReadFault.Failed → Rose ((F.seen files.old).read_faults name.now) ((F.seen files.new).read_faults name.now) }
+    ensures too_long { IsErrOf result ReadFault.TooLong → IfSome (F.seen files.old).holds (λ disk. limit < length (content disk name.now)) }
+    ensures too_many { IsErrOf result ReadFault.TooLong → more (F.seen files.old).given (limit + 1) ≤ (F.seen files.new).given }
+    ensures given { (F.seen files.new).given ≤ (F.seen files.old).given + (limit + 1) }
+    ensures holds { (F.seen files.new).holds ≡ (F.seen files.old).holds }
+    ensures reads { NoneFell (F.seen files.old).read_faults (F.seen files.new).read_faults }
+    ensures writes { NoneFell (F.seen files.old).write_faults (F.seen files.new).write_faults }
 {
     let limit = limit as usize;
     let mut bytes = Vec::new(alloc);

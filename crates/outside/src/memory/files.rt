@@ -24,7 +24,7 @@ impl MemFiles {
     /// Files with distinct names, and the numbers of the calls that are to fail. A failed append keeps nothing of its piece.
     /// Takes no memory.
     pub fn of(alloc: Global, files: Vec<(String, Vec<u8>)>, failing: Vec<u64>) -> Self
-        ensures holds { ⟦<MemFiles as Files>⟧.holds result ≡ Some (held string_bytes (λ b. b.items) files.items) }
+        ensures holds { (⟦<MemFiles as Files>⟧.seen result).holds ≡ Some (held string_bytes (λ b. b.items) files.items) }
         ensures new { AreNew failing.items 0 result }
     {
         MemFiles {
@@ -76,13 +76,14 @@ pub(crate) fn place_of(files: &[(String, Vec<u8>)], name: &str) -> Option<usize>
 }
 
 impl Files for MemFiles {
-    ghost holds = { λ m. Some (held string_bytes (λ b. b.items) m.files.items) };
-
-    ghost read_faults = { λ m name. m.faults };
-
-    ghost write_faults = { λ m name. m.faults };
-
-    ghost given = { λ m. m.given };
+    ghost seen = {
+        λ m. record {
+            holds = Some (held string_bytes (λ b. b.items) m.files.items);
+            read_faults = λ name. m.faults;
+            write_faults = λ name. m.faults;
+            given = m.given;
+        }
+    };
 
     fn read_at(&mut self, name: &str, at: u64, buf: &mut [u8]) -> Result<usize, Failed>
         requires { at ≤ 2 ^ 30 }

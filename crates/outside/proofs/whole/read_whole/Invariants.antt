@@ -6,14 +6,14 @@ use Rattle.outside.proofs.whole.read_whole.Given as goal
 
 abbrev pub invariant-loop-block : goal.invariant-loop-block
 invariant-loop-block g l = record {
-  front : IfSome (g.F.Files.holds l.fn.files) (λ disk. l.bytes.items ≡ take (length l.bytes.items) (content disk l.name));
+  front : IfSome (g.F.Files.seen l.fn.files).holds (λ disk. l.bytes.items ≡ take (length l.bytes.items) (content disk l.name));
   within : length l.bytes.items ≤ l.limit + 1;
   limit : l.limit ≤ 2 ^ 30;
-  holds : g.F.Files.holds l.files ≡ g.F.Files.holds l.fn.files;
-  reads : NoneFell (g.F.Files.read_faults l.fn.files) (g.F.Files.read_faults l.files);
-  writes : NoneFell (g.F.Files.write_faults l.fn.files) (g.F.Files.write_faults l.files);
-  given : more (g.F.Files.given l.files) 0 ≡ more (g.F.Files.given l.fn.files) (length l.bytes.items);
-  most : g.F.Files.given l.files ≤ g.F.Files.given l.fn.files + length l.bytes.items;
+  holds : (g.F.Files.seen l.files).holds ≡ (g.F.Files.seen l.fn.files).holds;
+  reads : NoneFell (g.F.Files.seen l.fn.files).read_faults (g.F.Files.seen l.files).read_faults;
+  writes : NoneFell (g.F.Files.seen l.fn.files).write_faults (g.F.Files.seen l.files).write_faults;
+  given : more (g.F.Files.seen l.files).given 0 ≡ more (g.F.Files.seen l.fn.files).given (length l.bytes.items);
+  most : (g.F.Files.seen l.files).given ≤ (g.F.Files.seen l.fn.files).given + length l.bytes.items;
 }
 
 abbrev pub decreases-loop-block : goal.decreases-loop-block
