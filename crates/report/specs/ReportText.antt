@@ -1,10 +1,8 @@
 -- The texts of reports.
-use Rattle.std.specs.Prelude.{ℕ, ◌+◌, ◌==◌, ◌≤◌, if◌then◌else◌, List, [], ◌∷◌, ◌++◌, length, get_or, codes, decimal}
-use Rattle.grid_files.specs.declared.fault.TheConstants.{CUBES}
-use Rattle.grid_files.specs.Written.{written}
+use Rattle.std.specs.Prelude.{ℕ, ◌+◌, ◌==◌, if◌then◌else◌, List, [], ◌∷◌, ◌++◌, get_or, codes, decimal}
 use Rattle.faults.specs.ChainText.{cell_text, number_text, chain_text}
 use Rattle.report.specs.declared.reports.Report.{Report}
-use Rattle.report.specs.declared.reports.Report.TheVariants.{Pair, Chain, Set}
+use Rattle.report.specs.declared.reports.Report.TheVariants.{Pair, Chain}
 use Rattle.report.specs.declared.reports.Shown.{Shown}
 
 -- the vector space of that dimension over the field of p elements: 0, Z_p or Z_p^d
@@ -51,9 +49,3 @@ shown_cycles shown cycles = if shown.cycles then cycles else []
 abbrev pub report_text : Report → Shown → List ℕ
 report_text (Pair pair) shown = group_lines cell_text shown.modulus pair.dimensions (shown_cycles shown pair.cycles)
 report_text (Chain dimensions cycles) shown = group_lines number_text shown.modulus dimensions (shown_cycles shown cycles)
-report_text (Set set) shown = written set
-
--- a set in the report has at most as many members as a set file
-abbrev pub HasText : Report → Type 0
-HasText (Set set) = length set.cells ≤ CUBES
-HasText report = Unit {0}

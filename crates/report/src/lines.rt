@@ -14,7 +14,8 @@ pub(crate) fn put_groups<G: Generator>(
     dimensions: &[u32],
     cycles: &Cycles<G>,
 ) -> Result<(), NoMemory>
-    ensures { OnOk result (to.new.items ≡ to.old.items ++ group_lines G.text shown.now.modulus dimensions.now (shown_cycles shown.now cycles.now)) }
+    ensures { OnOk result (to.new.items ≡ to.old.items
+        ++ group_lines G.text shown.now.modulus dimensions.now (shown_cycles shown.now cycles.now)) }
 {
     for (degree, dimension) in dimensions.iter().enumerate() {
         let printed = printed_in(shown, cycles, degree);
@@ -41,7 +42,8 @@ fn put_degree<G: Generator>(
     dimension: u32,
     cycles: &[Terms<G>],
 ) -> Result<(), NoMemory>
-    ensures { OnOk result (to.new.items ≡ to.old.items ++ degree_lines G.text modulus degree dimension cycles.now) }
+    ensures { OnOk result (to.new.items ≡ to.old.items
+        ++ degree_lines G.text modulus degree dimension cycles.now) }
 {
     put_group_line(to, modulus, degree, dimension)?;
     put_cycles(to, degree, cycles)
@@ -102,7 +104,8 @@ fn put_cycle_line<G: Generator>(
     number: usize,
     cycle: &Terms<G>,
 ) -> Result<(), NoMemory>
-    ensures { OnOk result (to.new.items ≡ to.old.items ++ cycle_line G.text degree number cycle.now) }
+    ensures { OnOk result (to.new.items ≡ to.old.items
+        ++ cycle_line G.text degree number cycle.now) }
 {
     let mut buffer = Buffer::new();
     to.extend_from_slice(b"z_")?;
