@@ -1,6 +1,6 @@
 use Rattle.std.proofs.Common.{option_copied}
 use Rattle.std.proofs.lemmas.Result.{err_from_is_err_and}
-use Rattle.loading.proofs.TwoSets.{second_refused, two_load}
+use Rattle.loading.proofs.LoadingTwo.{second_refused, two_load}
 use Rattle.loading.proofs.two_sets.load_two_sets.Goals as goal
 
 pub returns-in_err-second-clause-loads : goal.returns-in_err-second-clause-loads
