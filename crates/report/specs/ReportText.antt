@@ -2,7 +2,7 @@
 use Rattle.std.specs.Prelude.{ℕ, ◌+◌, ◌==◌, ◌≤◌, if◌then◌else◌, List, [], ◌∷◌, ◌++◌, length, get_or, codes, decimal}
 use Rattle.std.specs.List.{flat_map}
 use Rattle.elem_cubes.specs.Cells.{Factor, lower_of, upper_of}
-use Rattle.grid_files.specs.declared.fault.TheConstants.{CUBES}
+use Rattle.cube_sets.specs.declared.fault.TheConstants.{CUBES}
 use Rattle.grid_files.specs.Written.{corner_text, written}
 use Rattle.report.specs.declared.reports.Report.{Report}
 use Rattle.report.specs.declared.reports.Report.TheVariants.{Pair, Chain, Set}
