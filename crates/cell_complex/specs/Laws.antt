@@ -5,7 +5,7 @@ use Rattle.elem_cubes.specs.Cells.{Factor}
 use Rattle.chains.specs.Homology.{IsBoundaryOperator, IsChain, IsCycle, IsNull, IsBasis}
 use Rattle.chains.specs.Terms.{coefficient}
 use Rattle.chains.specs.ChainComplex.{ChainComplex, IsComplex, IsBasisOf, system}
-use Rattle.grid_files.specs.Closures.{is_cell_of}
+use Rattle.cube_sets.specs.Closures.{is_cell_of}
 use Rattle.cell_complex.specs.RelativeComplex.{is_relative, complex_on, relative_complex, IsClosed, IsClosedList, SquaresToZero}
 use Rattle.cell_complex.specs.Numbering.{IsRelativeComplex, by_cell, by_number, cell_coefficient, cell_terms}
 

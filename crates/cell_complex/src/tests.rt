@@ -4,7 +4,7 @@ use crate::pairs::relative_within;
 use chains::Complex;
 use elem_cubes::{Cell, Corner};
 use field_mod::Field;
-use grid_files::CubeSet;
+use cube_sets::CubeSet;
 use std::alloc::Global;
 use std::test::Fail;
 
@@ -15,7 +15,7 @@ fn cell(lower: i32, wide: bool) -> Result<Cell, Fail> {
 }
 
 fn set_of(alloc: Global, cells: &[Cell]) -> Result<CubeSet, Fail> {
-    if cells.len() > 4 || !grid_files::are_members(1, cells) {
+    if cells.len() > 4 || !cube_sets::are_members(1, cells) {
         return Err(Fail::from("few cells of one factor"));
     }
     let members = Vec::from_slice(alloc, cells)?;

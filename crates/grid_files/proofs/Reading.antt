@@ -5,7 +5,7 @@ use Rattle.std.proofs.lemmas.List.{map-append, length-map}
 use Rattle.std.proofs.lemmas.List.Folds.{list_all-append}
 use Rattle.std.proofs.lemmas.Bool.Decides.{nat_tests}
 use Rattle.elem_cubes.specs.Corners.{is_file_end}
-use Rattle.grid_files.specs.Sets.{Members}
+use Rattle.cube_sets.specs.Sets.{Members}
 use Rattle.grid_files.specs.Items.{Item, full, elementary, dimension_line, skipped_line, Open, nothing, in_full, before_lower, in_lower, before_upper, in_upper, before_end, behind_word, spelling, opened, closed, fits, fits_corner, is_empty, is_full_end, beginning, fits_open, refused, refused_in_corner, refused_for_mark, cause_of, with_item}
 use Rattle.grid_files.specs.SetFile.{said, first_place, IsItem, Splits, Gathers, fault_place, Refuses, is_open}
 use Rattle.grid_files.specs.Reading.{Step, goes, closes, stops, in_corner, for_mark, step, next, judged, start_of, closing_place, Outcome, read}

@@ -18,7 +18,7 @@ use Rattle.grid_files.specs.Pieces.{piece_of, is_dimension, pieces_behind, word_
 use Rattle.grid_files.specs.SetFile.{said}
 use Rattle.grid_files.specs.Written.{spaced, corner_text}
 use Rattle.grid_files.proofs.Scanning.{while_more, while_end}
-use Rattle.grid_files.proofs.Sorting.{and_true}
+use Rattle.cube_sets.proofs.Sorting.{and_true}
 
 -- before these bytes the text tells these pieces, and no part of a piece is left
 abbrev pub Tells : List ℕ → List ℕ → List Piece → Type 0

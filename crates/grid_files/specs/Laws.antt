@@ -2,12 +2,12 @@
 use Rattle.std.specs.Prelude.{◌≡◌, ◌⊎◌, ◌≤◌, ℕ, List, length, true}
 use Rattle.std.specs.List.{list_all}
 use Rattle.grid_files.specs.Items.{is_wanted}
-use Rattle.grid_files.specs.Sets.{Members, IsCubeSet}
+use Rattle.cube_sets.specs.Sets.{Members, IsCubeSet}
 use Rattle.grid_files.specs.SetFile.{HasValue, IsRefusedAt}
 use Rattle.grid_files.specs.Written.{written}
 use Rattle.grid_files.specs.declared.fault.Kind.{Kind}
 use Rattle.grid_files.specs.declared.fault.TextCause.{TextCause}
-use Rattle.grid_files.specs.declared.fault.TheConstants.{CUBES}
+use Rattle.cube_sets.specs.declared.fault.TheConstants.{CUBES}
 
 -- a text has exactly one value, or is refused at exactly one place with one cause
 pub record TextsHaveOneOutcome : Type 0 where

@@ -1,7 +1,7 @@
 -- The reading of a set file as a function of its pieces, by which the parts of the reader are told.
 use Rattle.std.specs.Prelude.{ℕ, ℤ, List, [], ◌∷◌, ◌++◌, Bool, ◌==◌, ◌&&◌, not, if◌then◌else◌, Option, None, Some, Result, Ok, Err}
 use Rattle.elem_cubes.specs.Corners.{is_file_end}
-use Rattle.grid_files.specs.Sets.{Members}
+use Rattle.cube_sets.specs.Sets.{Members}
 use Rattle.grid_files.specs.Items.{Item, full, elementary, dimension_line, skipped_line, Open, nothing, in_full, before_lower, in_lower, before_upper, in_upper, before_end, behind_word, is_empty, is_full_end, cause_of, with_item}
 use Rattle.grid_files.specs.SetFile.{is_open}
 use Rattle.grid_files.specs.declared.fault.Kind.{Kind}

@@ -3,7 +3,7 @@ use Rattle.std.specs.Prelude.{ℕ, ℤ, pos, List, [], ◌∷◌, ◌++◌, drop
 use Rattle.std.specs.List.{flat_map, list_all}
 use Rattle.outside.specs.Decimal.{decimal}
 use Rattle.elem_cubes.specs.Cells.{Factor, is_wide, lower_of, upper_of}
-use Rattle.grid_files.specs.Sets.{Members}
+use Rattle.cube_sets.specs.Sets.{Members}
 use Rattle.grid_files.specs.declared.piece.TheConstants.{DIMENSION}
 
 -- numbers, each behind a space

@@ -3,15 +3,16 @@ ghost use Rattle.std.specs.Prelude.{◌≡◌, ◌≤◌, ℕ, ℤ, List, Option
 ghost use Rattle.std.specs.List.{list_all};
 ghost use Rattle.elem_cubes.specs.Cells.{Factor, is_file_factor};
 ghost use Rattle.grid_files.specs.Corners.{IsCellOf};
-ghost use Rattle.grid_files.specs.Sets.{Members};
+ghost use Rattle.cube_sets.specs.Sets.{Members};
 ghost use Rattle.grid_files.specs.Items.{Item, fits, cause_of, with_item, cell_cause, cube_cause, with_cell, dimension_cause, dimension_line, is_wanted};
 ghost use Rattle.grid_files.specs.Openings.{IsClosing};
 ghost use Rattle.grid_files.specs.Readers.{IsGathered, Joins};
 
 use crate::cells::Cells;
-use crate::fault::{CUBES, Kind, TextCause};
+use crate::fault::{Kind, TextCause};
 use crate::opening::Closing;
 use crate::whole_cube::{cube_between, full_cube};
+use cube_sets::CUBES;
 use elem_cubes::{Cell, MAX_EMBEDDING};
 
 /// A cause that has no place yet, or no memory was left.

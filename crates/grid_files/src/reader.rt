@@ -1,6 +1,6 @@
 //! The reader of set files: a machine of fixed size over the bytes of a text, beside the distinct cells so far.
 ghost use Rattle.std.specs.Prelude.{◌≡◌, ◌∷◌, ℕ, List, IfOk};
-ghost use Rattle.grid_files.specs.Sets.{Members};
+ghost use Rattle.cube_sets.specs.Sets.{Members};
 ghost use Rattle.grid_files.specs.Items.{Item, Open, nothing};
 ghost use Rattle.grid_files.specs.SetFile.{no_members};
 ghost use Rattle.grid_files.specs.Reading.{start_of, closing_place};
@@ -10,12 +10,12 @@ ghost use Rattle.grid_files.specs.Readings.{Reads, Leads, Feeds, Ends};
 ghost use Rattle.grid_files.specs.declared.scanner.Carry.TheVariants.{Between};
 
 use crate::cells::Cells;
-use crate::cube_set::CubeSet;
 use crate::fault::{Kind, TextCause, TextFault};
 use crate::gathered::{Gathered, Refusal};
 use crate::opening::{Closing, Opening, Turn, take_turn};
 use crate::piece::Piece;
 use crate::scanner::{Carry, Placed, scan};
+use cube_sets::CubeSet;
 use std::alloc::Global;
 
 /// Where the reading of a set file stands.

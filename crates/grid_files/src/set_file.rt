@@ -5,10 +5,10 @@ ghost use Rattle.elem_cubes.specs.Cells.{is_wide};
 ghost use Rattle.grid_files.specs.SetFile.{HasValue, IsRefusedAt};
 ghost use Rattle.grid_files.specs.Faults.{IsFaultOf};
 
-use crate::cube_set::CubeSet;
-use crate::fault::{CUBES, Kind, TextFault};
+use crate::fault::{Kind, TextFault};
 use crate::reader::Reader;
 use crate::scanner::Carry;
+use cube_sets::{CUBES, CubeSet};
 use std::alloc::Global;
 
 /// The set of a set file: the value of the text, or the place and the cause of its refusal. With `Kind::Full` full cubes alone

@@ -1,10 +1,8 @@
 //! Sets of cells on small examples.
 ghost use Rattle.std.specs.Prelude.{◌≡◌, IfOk};
 
-use crate::{
-    CubeSet, SetFault, are_members, cells_are_faces, neighbours_meet, texts_have_one_outcome,
-    written_sets_are_read,
-};
+use crate::{CubeSet, SetFault, are_members, texts_have_one_outcome, written_sets_are_read};
+use cube_sets::{cells_are_faces, neighbours_meet};
 use elem_cubes::{Cell, Corner, HIGH, LOW, MAX_EMBEDDING};
 use std::alloc::Global;
 use std::process::Abort;

@@ -3,9 +3,8 @@ ghost use Rattle.std.specs.Prelude.{◌≡◌, ◌++◌, ◌≤◌, length, OnOk
 ghost use Rattle.std.specs.List.{flat_map};
 ghost use Rattle.grid_files.specs.Written.{spaced, next_text, corner_text, cell_text, cell_line, written};
 
-use crate::cube_set::CubeSet;
-use crate::fault::CUBES;
 use crate::piece::DIMENSION;
+use cube_sets::{CUBES, CubeSet};
 use elem_cubes::{Cell, Corner};
 use outside::put_number;
 use std::alloc::{AllocError, Global};

@@ -1,7 +1,7 @@
 -- The loading of two sets.
 use Rattle.std.proofs.Common.{◌≡◌, ℕ, ◌+◌, ◌*◌, ◌≤◌, ◌∷◌, [], Bool, true, false, cond, List, length, Option, None, Some, Result, Ok, Err, IfOk, IfErr, refl, sym, subst, ◌⊎◌, inl, inr}
 use Rattle.outside.specs.Seen.{Seen}
-use Rattle.grid_files.specs.Sets.{Members, dimensions_agree}
+use Rattle.cube_sets.specs.Sets.{Members, dimensions_agree}
 use Rattle.grid_files.specs.declared.fault.Kind.TheVariants.{Any}
 use Rattle.faults.specs.declared.fault.Fault.{Fault}
 use Rattle.faults.specs.declared.fault.Fault.TheVariants.{Dimension, OutOfMemory}

@@ -3,7 +3,7 @@
 use Rattle.std.proofs.Common.{◌≡◌, ℕ, ◌<◌, ◌≤◌, List, length, Option, None, Some, Result, Ok, Err, IfSome, Contains, refl, sym, ap, ◌∙◌, subst, arith, ◌⊎◌, inl, inr, ⊎_elim}
 use Rattle.std.proofs.lemmas.Bool.{cases_lt}
 use Rattle.outside.specs.Disk.{Disk, content}
-use Rattle.grid_files.specs.Sets.{Members}
+use Rattle.cube_sets.specs.Sets.{Members}
 use Rattle.grid_files.specs.SetFile.{HasValue, IsRefusedAt, no_members}
 use Rattle.grid_files.specs.declared.fault.Kind.{Kind}
 use Rattle.grid_files.specs.declared.fault.TextCause.{TextCause}

@@ -1,6 +1,6 @@
 //! Two sets of files, whose dimensions agree.
 ghost use Rattle.std.specs.Prelude.{◌≡◌, ◌≤◌, length, IsTrue, IfOk, option_copied};
-ghost use Rattle.grid_files.specs.Sets.{dimensions_agree};
+ghost use Rattle.cube_sets.specs.Sets.{dimensions_agree};
 ghost use Rattle.loading.specs.Steps.{IsDue};
 ghost use Rattle.loading.specs.Loads.{Loads};
 ghost use Rattle.loading.specs.TwoSets.{two_bytes, second_name, two_sets, AreTwoSetsIn, AreOperands};

@@ -1,7 +1,8 @@
 use Rattle.std.proofs.Common.{sym, ◌∙◌, refl, ap}
 use Rattle.elem_cubes.specs.Order.{cell_cmp}
-use Rattle.grid_files.specs.Sorted.{has}
-use Rattle.grid_files.proofs.Finishing.{keys_alike, same_sets, same_members}
+use Rattle.cube_sets.specs.Sorted.{has}
+use Rattle.grid_files.proofs.Finishing.{keys_alike}
+use Rattle.cube_sets.proofs.SameSets.{same_sets, same_members}
 use Rattle.grid_files.proofs.reader.Reader.finish.Goals as goal
 
 pub returns-then-is_open : goal.returns-then-is_open
