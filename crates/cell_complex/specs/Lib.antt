@@ -3,4 +3,5 @@ pub mod Sorted
 pub mod Numbering
 pub mod Boundaries
 pub mod CellCount
+pub mod Acyclic
 pub mod Laws

@@ -14,7 +14,4 @@ pub use laws::{
     numbered_cells_are_complex, relative_complexes_are_complexes,
 };
 pub use numbered::Numbered;
-pub use pairs::{CELLS, relative};
-
-#[cfg(test)]
-mod tests;
+pub use pairs::{CELLS, relative, relative_within};
