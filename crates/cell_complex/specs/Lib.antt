@@ -4,4 +4,7 @@ pub mod Numbering
 pub mod Boundaries
 pub mod CellCount
 pub mod Acyclic
+pub mod AcyclicLists
+pub mod Growth
+pub mod FreePairs
 pub mod Laws
