@@ -1,0 +1,7 @@
+//! Tests of the libraries through their public calls.
+#![tactic(auto)]
+
+#[cfg(test)]
+mod basis_tests;
+#[cfg(test)]
+mod cell_complex_tests;
