@@ -2,6 +2,10 @@
 #![tactic(auto)]
 
 #[cfg(test)]
+mod basis_tests;
+#[cfg(test)]
+mod cell_complex_tests;
+#[cfg(test)]
 mod fault_tests;
 #[cfg(test)]
 mod report_tests;

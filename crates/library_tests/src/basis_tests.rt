@@ -1,9 +1,9 @@
 //! Bases of a segment, of an interval relative to its ends, and of the border of a square.
-use super::*;
 use algebraic_reduction::Log;
 use chains::{Chain, Complex};
 use field_mod::Field;
 use grid_files::{CubeSet, Kind, read_set};
+use homology_basis::{Basis, basis, prepare};
 use std::alloc::Global;
 use std::test::Fail;
 

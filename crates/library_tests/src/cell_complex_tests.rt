@@ -1,6 +1,5 @@
 //! A segment, alone and relative to its end points, and too many cells.
-use super::*;
-use crate::pairs::relative_within;
+use cell_complex::{CellsFault, Numbered, complex_of, relative, relative_within};
 use chains::Complex;
 use elem_cubes::{Cell, Corner};
 use field_mod::Field;
