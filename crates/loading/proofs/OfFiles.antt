@@ -1,6 +1,6 @@
 -- Steps that read files of these names and no others: where the files are told they have one outcome, and what they find they find also
 -- where a file may fail to be read.
-use Rattle.std.proofs.Common.{◌≡◌, ℕ, ◌<◌, ◌≤◌, List, length, Option, None, Some, Result, Ok, Err, IfSome, Contains, refl, sym, ap, ◌∙◌, subst, arith, ◌⊎◌, inl, inr, ⊎_elim}
+use Rattle.std.proofs.Common.{◌≡◌, ℕ, ◌<◌, ◌≤◌, List, length, Option, None, Some, Result, Ok, Err, Contains, refl, sym, ap, ◌∙◌, subst, arith, ◌⊎◌, inl, inr}
 use Rattle.std.proofs.lemmas.Bool.{cases_lt}
 use Rattle.outside.specs.Disk.{Disk, content}
 use Rattle.cube_sets.specs.Sets.{Members}
@@ -87,7 +87,8 @@ pub then_files : {A B : Type 0} (names : List (List ℕ)) (first : Reading → R
     → IsOfFiles names first → ((x : A) → IsOfFiles names (λ read. next read x)) → IsOfFiles names (λ read. Then (first read) (next read))
 then_files {A} {B} names first next f n = record {
   one = λ disk. then_one (first (reading (Some disk))) (next (reading (Some disk))) (f.one disk) (λ x. (n x).one disk);
-  wider = wider; named = named;
+  wider = wider;
+  named = named;
 }
   where
     wider : (unread : List ℕ) (holds : Option Disk) (o : Result B Fault) → Then (first (reading holds)) (next (reading holds)) o

@@ -1,6 +1,5 @@
 -- What a fault rests on decides the status, for any job that is judged in one way.
-use Rattle.std.proofs.Common.{◌≡◌, ◌≢◌, ℕ, List, [], append-nil, Option, None, Some, Result, Ok, Err, IfSome, Contains, refl, sym, ap, ◌∙◌, subst, ◌⊎◌, inl, inr}
-use Rattle.outside.specs.Causes.{Rose}
+use Rattle.std.proofs.Common.{◌≡◌, ◌≢◌, ℕ, List, [], append-nil, Option, None, Some, Result, Ok, Err, IfSome, refl, sym, ap, ◌∙◌, subst, ◌⊎◌, inl, inr}
 use Rattle.outside.specs.Disk.{Disk}
 use Rattle.outside.specs.Seen.{Seen}
 use Rattle.outside.specs.Told.{Gains}
@@ -9,9 +8,9 @@ use Rattle.faults.specs.declared.fault.Fault.TheVariants.{NoTool, NotAForm, Cann
 use Rattle.faults.specs.declared.status.Status.{Status}
 use Rattle.faults.specs.declared.status.Status.TheVariants as statuses
 use Rattle.faults.specs.Statuses.{status_of, without_chain}
-use Rattle.loading.specs.Readings.{reading, but_for, as_read}
+use Rattle.loading.specs.Readings.{reading, as_read}
 use Rattle.loading.specs.Loads.{IsCaused}
-use Rattle.loading.specs.Jobs.{Job, IsAllowed, IsJudged, AreAlike, HasOneJudgement, IsRefusedWith, IsAnswer, RestsOn}
+use Rattle.loading.specs.Jobs.{Job, IsJudged, HasOneJudgement, IsRefusedWith, IsAnswer, RestsOn}
 use Rattle.tool.specs.Ends.{ReadFailed, EndsAs}
 
 status_without_chain : (fault : Fault) → status_of (without_chain fault) ≡ status_of fault

@@ -6,8 +6,8 @@ ghost use Rattle.faults.specs.FaultText.{fault_text};
 ghost use Rattle.faults.specs.Statuses.{status_of};
 ghost use Rattle.tool.specs.Ends.{Says};
 
-use outside::{Sink, send_all};
 use faults::{Fault, Status, fault_text};
+use outside::{Sink, send_all};
 use std::alloc::Global;
 
 /// Writes the text of a report, or as much of it as can be and the line on that.

@@ -10,8 +10,8 @@ ghost use Rattle.tool.specs.Ends.{Says, ReadFailed, EndsAs};
 
 use crate::delivery::{deliver, refuse};
 use crate::tool::Tool;
-use outside::{Files, Sink};
 use faults::{Fault, Status};
+use outside::{Files, Sink};
 use std::alloc::Global;
 
 /// Does what is asked, and writes the answer to `out` or one line on a fault to `err`. All is read and
