@@ -21,6 +21,3 @@ pub use laws::{
     faces_are_transitive, faces_stay_in_range, facets_are_units, order_is_total,
 };
 pub use range::{HIGH, LOW, MAX_EMBEDDING};
-
-#[cfg(test)]
-mod tests;

@@ -19,12 +19,3 @@ pub use fault::{Kind, TextCause, TextFault};
 pub use laws::{texts_have_one_outcome, written_sets_are_read};
 pub use set_file::read_set;
 pub use write::write_set;
-
-#[cfg(test)]
-mod limit_tests;
-#[cfg(test)]
-mod read_tests;
-#[cfg(test)]
-mod tests;
-#[cfg(test)]
-mod write_tests;
