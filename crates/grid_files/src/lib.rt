@@ -1,4 +1,5 @@
-//! Texts of sets of cells: set files, read and written. What callers need of sets is given on under this name.
+//! Texts of sets of cells: set files, read and written. What callers need of sets is given on under
+//! this name.
 #![tactic(auto)]
 
 mod cells;
