@@ -1,5 +1,6 @@
 //! Sets at their greatest size, and one past it.
-use crate::{CUBES, CubeSet, Kind, SetFault, TextCause, TextFault, read_set};
+use cube_sets::{CUBES, CubeSet, SetFault};
+use grid_files::{Kind, TextCause, TextFault, read_set};
 use outside::put_number;
 use std::alloc::Global;
 use std::test::Fail;

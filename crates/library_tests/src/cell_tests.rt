@@ -1,5 +1,5 @@
 //! Signs, orders and ranges on small cells.
-use crate::{Cell, Corner, HIGH, LOW};
+use elem_cubes::{Cell, Corner, HIGH, LOW};
 use std::process::Abort;
 use std::test::Fail;
 

@@ -1,5 +1,6 @@
 //! Sets that are written, and read again.
-use crate::{CUBES, Kind, read_set, write_set};
+use cube_sets::CUBES;
+use grid_files::{Kind, read_set, write_set};
 use std::alloc::Global;
 use std::process::Abort;
 use std::test::Fail;

@@ -1,5 +1,7 @@
 //! Set files that are read, and that are refused.
-use crate::{Kind, TextCause, TextFault, read_set};
+use grid_files::{
+    Kind, TextCause, TextFault, read_set, texts_have_one_outcome, written_sets_are_read,
+};
 use std::alloc::Global;
 
 // The cause with which a text is refused, and its place; nothing where it has a value, or no memory was left.
@@ -200,4 +202,10 @@ fn not_such_cubes(rt: HostRuntime) {
         );
         assert_eq!(rt; refusal(rt.alloc(), text, Kind::Any), None, "in {text:?}");
     }
+}
+
+#[test]
+fn laws_of_set_files_hold() {
+    texts_have_one_outcome();
+    written_sets_are_read();
 }
