@@ -1,4 +1,5 @@
-//! Prime fields of a fixed table of moduli, and, for the crates above, finite sums and numbers modulo p.
+//! Prime fields of a fixed table of moduli, and, for the crates above, finite sums and numbers
+//! modulo p.
 #![tactic(auto)]
 
 mod field;

@@ -1,4 +1,5 @@
-//! What the program reads and writes: files, sinks and a gate by their meanings, whole files and texts, tokens and numbers.
+//! What the program reads and writes: files, sinks and a gate by their meanings, whole files and
+//! texts, tokens and numbers.
 #![tactic(auto)]
 
 mod ends;

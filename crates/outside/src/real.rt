@@ -1,7 +1,7 @@
 //! The real files and streams. They tell no contents, and count each error: the trusted edge.
-ghost use Rattle.std.specs.Prelude.{◌≡◌, ◌≤◌, ◌<◌, ◌^◌, None, length, take, nat_lt, if◌then◌else◌, IfOk, OnOk, MatchResult};
+ghost use Rattle.std.specs.Prelude.{◌≡◌, ◌≤◌, ◌<◌, ◌^◌, None, length, take, IfOk, OnOk};
 ghost use Rattle.std.specs.Io.KnownBytes.{Appends, Consumes, IsAtEnd, WriteAppends};
-ghost use Rattle.outside.specs.Causes.{HasCause, CountsStalls, more};
+ghost use Rattle.outside.specs.Causes.{HasCause, CountsBytes, CountsStalls, CountsShort};
 ghost use Rattle.outside.specs.Memory.{counted};
 ghost use Rattle.outside.specs.Told.{Writes};
 
@@ -35,21 +35,19 @@ impl<R: std::rt::Files + Drop> RealFiles<R> {
 }
 
 impl<R: std::rt::Files + Drop> Files for RealFiles<R> {
-    ghost seen = {
-        λ m. record {
-            holds = None;
-            read_faults = λ _. m.read_faults;
-            write_faults = λ _. m.write_faults;
-            given = m.given;
-        }
-    };
+    ghost seen = { λ m. record {
+      holds = None;
+      read_faults = λ _. m.read_faults;
+      write_faults = λ _. m.write_faults;
+      given = m.given;
+    } };
 
     // Each error counts once, and nothing else does.
     fn read_at(&mut self, name: &str, at: u64, buf: &mut [u8]) -> Result<usize, Failed>
         requires { at ≤ 2 ^ 30 }
         ensures bound { IfOk result (λ n. n ≤ length buf.new) }
         ensures cause { HasCause self.old.read_faults self.new.read_faults result }
-        ensures given { MatchResult result (λ n. self.new.given ≡ more self.old.given n) (λ _. self.new.given ≡ self.old.given) }
+        ensures given { CountsBytes self.old.given result self.new.given }
         ensures counts { self.new.read_faults ≡ counted self.old.read_faults result }
         ensures kept { self.new.write_faults ≡ self.old.write_faults }
     {
@@ -89,7 +87,8 @@ impl<R: std::rt::Files + Drop> Files for RealFiles<R> {
     }
 }
 
-// Fills a front of the buffer with what stands from a place on; less than all of it only at the end.
+// Fills a front of the buffer with what stands from a place on; less than all of it only at the
+// end.
 fn fill<T: Read + Seek>(file: &mut T, at: u64, buf: &mut [u8]) -> Result<usize, Failed>
     ensures { IfOk result (λ n. n ≤ length buf.new) }
 {
@@ -102,7 +101,8 @@ fn fill<T: Read + Seek>(file: &mut T, at: u64, buf: &mut [u8]) -> Result<usize, 
 // Fills a front of the buffer with what comes next; less than all of it only at the end.
 fn fill_front<T: Read>(file: &mut T, buf: &mut [u8]) -> Result<usize, Failed>
     ensures bound { IfOk result (λ n. n ≤ length buf.new) }
-    ensures bytes { IfOk result (λ n. Consumes (T.remaining file.old) (T.remaining file.new) (take n buf.new)) }
+    ensures bytes { IfOk result (λ n. Consumes (T.remaining file.old) (T.remaining file.new)
+        (take n buf.new)) }
     ensures end { IfOk result (λ n. n < length buf.new → IsAtEnd (T.remaining file.new)) }
 {
     let mut filled = 0;
@@ -129,7 +129,8 @@ fn pour<T: Write>(file: &mut T, piece: &[u8]) -> Result<(), Failed>
 // Writes a piece as far as that goes, and answers how far.
 fn pour_front<T: Write>(stream: &mut T, piece: &[u8]) -> usize
     ensures bound { result ≤ length piece.now }
-    ensures bytes { Appends (T.contents stream.old) (T.contents stream.new) (take result piece.now) }
+    ensures bytes { Appends (T.contents stream.old) (T.contents stream.new)
+        (take result piece.now) }
 {
     let mut sent = 0;
     while sent < piece.len() {
@@ -162,15 +163,16 @@ impl<W: Write + Drop> Sink for RealSink<W> {
 
     ghost faults = { λ s. s.faults };
 
-    // What it answers is appended to the stream, where that tells its bytes. After an error it is what was written before, and
-    // one fault counts.
+    // What it answers is appended to the stream, where that tells its bytes. After an error it is
+    // what was written before, and one fault counts.
     fn write(&mut self, piece: &[u8]) -> Result<usize, Failed>
         ensures bound { IfOk result (λ n. n ≤ length piece.now) }
         ensures bytes { Writes None None result piece.now }
         ensures cause { HasCause self.old.faults self.new.faults result }
         ensures stalls { CountsStalls self.old.faults self.new.faults result piece.now }
-        ensures counts { MatchResult result (λ n. self.new.faults ≡ (if nat_lt n (length piece.now) then more self.old.faults 1 else self.old.faults)) (λ _. self.new.faults ≡ more self.old.faults 1) }
-        ensures inner { WriteAppends (W.contents self.old.inner) (W.contents self.new.inner) result piece.now }
+        ensures counts { CountsShort self.old.faults result piece.now self.new.faults }
+        ensures inner { WriteAppends (W.contents self.old.inner) (W.contents self.new.inner)
+            result piece.now }
     {
         let sent = pour_front(&mut self.inner, piece);
         if sent < piece.len() {
