@@ -9,6 +9,3 @@ mod moduli;
 pub use field::Field;
 pub use laws::{moduli_are_fields, moduli_are_the_table, sums_are_linear, sums_change_order};
 pub use moduli::MODULI;
-
-#[cfg(test)]
-mod tests;

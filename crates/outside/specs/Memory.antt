@@ -1,14 +1,10 @@
 -- Files and a sink in memory: what they hold, and which of their calls fail.
-use Rattle.std.specs.Prelude.{◌≡◌, ◌⊎◌, ◌==◌, Bool, true, false, ℕ, ◌+◌, List, if◌then◌else◌, min, length, string_bytes, Result, MatchResult, is_err}
+use Rattle.std.specs.Prelude.{◌≡◌, ◌⊎◌, ◌==◌, Bool, true, false, ℕ, ◌+◌, List, min, length, string_bytes, Result, MatchResult}
 use Rattle.std.specs.List.{list_any}
-use Rattle.outside.specs.Causes.{Rose, more}
+use Rattle.outside.specs.Causes.{Rose, more, counted}
 use Rattle.outside.specs.Disk.{Disk, held, Tears}
 use Rattle.outside.specs.declared.memory.files.MemFiles.{MemFiles}
 use Rattle.outside.specs.declared.memory.sink.MemSink.{MemSink}
-
--- A count of failures after a call.
-abbrev pub counted : {T E : Type 0} → ℕ → Result T E → ℕ
-counted faults result = if is_err result then more faults 1 else faults
 
 -- A call is to fail where its number, counted from 1, is among those that are to fail.
 abbrev pub is_among : List ℕ → ℕ → Bool

@@ -3,6 +3,7 @@
 #![tactic(auto)]
 
 mod ends;
+mod errors;
 mod laws;
 mod lexer;
 mod memory;
@@ -17,6 +18,3 @@ pub use memory::{MemFiles, MemSink};
 pub use quiet::{OpenGate, QuietFiles, QuietSink};
 pub use real::{RealFiles, RealSink};
 pub use whole::{ReadFault, put_number, read_whole, send_all};
-
-#[cfg(test)]
-mod tests;

@@ -1,5 +1,5 @@
 //! Chain files that are read.
-use crate::{ChainFault, bases_are_of_the_file, read_complex, texts_have_one_outcome};
+use chain_files::{ChainFault, bases_are_of_the_file, read_complex, texts_have_one_outcome};
 use field_mod::Field;
 use std::alloc::Global;
 

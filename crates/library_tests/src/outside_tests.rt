@@ -1,7 +1,10 @@
 //! Each public call once, on values from outside.
 ghost use Rattle.std.specs.Prelude.{◌≤◌, ◌^◌, length};
 
-use crate::*;
+use outside::{
+    Failed, Files, Gate, Lexer, MemFiles, MemSink, OpenGate, QuietFiles, QuietSink, ReadFault,
+    RealFiles, RealSink, Sink, Token, put_number, read_whole, send_all,
+};
 use std::alloc::Global;
 use std::fs::File;
 use std::io::Write;

@@ -1,5 +1,5 @@
 //! Chain files that are refused.
-use crate::{ChainCause, ChainFault, TERMS, read_complex};
+use chain_files::{ChainCause, ChainFault, TERMS, read_complex};
 use field_mod::Field;
 use std::alloc::Global;
 use std::test::Fail;
