@@ -102,7 +102,7 @@ fn a_matrix_that_is_not_square(rt: HostRuntime) -> Result<(), Fail> {
     let alloc = rt.alloc();
     let f = Field::<3>::get().ok_or("no field")?;
     let entries = vec![in alloc; 1, 0, 2, 0, 1, 1]?;
-    let wide = table_table(2, 2, 3, entries).ok_or("no matrix")?;
+    let wide = table(2, 3, entries).ok_or("no matrix")?;
     assert_eq!(rt; wide.rank(alloc, f)?, 2);
     let kernel = wide.kernel_vector(alloc, f)?.ok_or("no kernel")?;
     assert_eq!(rt; kernel.as_slice(), [1, 2, 1].as_slice());
