@@ -1,15 +1,15 @@
 //! Chain files that are read.
-use crate::{ChainFault, bases_are_of_the_file, read_complex, texts_have_one_outcome};
+use chain_files::{ChainFault, bases_are_of_the_file, read_complex, texts_have_one_outcome};
 use field_mod::Field;
 use std::alloc::Global;
 
 // The projective plane: one generator in each degree, and twice the one of degree 1 bounds.
-const PLANE: &str =
-    "chain complex\nmax dimension 2\ndimension 0: 1\ndimension 1: 1\n# 1 = 0\ndimension 2: 1\n# 1 = 2 * 1\n";
+const PLANE: &str = "chain complex\nmax dimension 2\ndimension 0: 1\ndimension 1: 1\n# 1 = 0\n\
+    dimension 2: 1\n# 1 = 2 * 1\n";
 
 // Each boundary is the generator below.
-const NO_COMPLEX: &str =
-    "chain complex\nmax dimension 2\ndimension 0: 1\ndimension 1: 1\n# 1 = 1 * 1\ndimension 2: 1\n# 1 = 1 * 1\n";
+const NO_COMPLEX: &str = "chain complex\nmax dimension 2\ndimension 0: 1\ndimension 1: 1\n\
+    # 1 = 1 * 1\ndimension 2: 1\n# 1 = 1 * 1\n";
 
 // Whether a text is read modulo P, and the boundary of a generator has these terms.
 fn has<const P: u16>(alloc: Global, text: &str, generator: u32, wanted: &[(u32, u16)]) -> bool {
@@ -81,8 +81,8 @@ fn terms_are_summed_modulo_the_prime(rt: HostRuntime) {
 
 #[test]
 fn degrees_without_generators(rt: HostRuntime) {
-    let text =
-        "chain complex max dimension 3 dimension 0: 0 dimension 1: 2 # 2 = 0 dimension 2: 00 dimension 3: 1";
+    let text = "chain complex max dimension 3 dimension 0: 0 dimension 1: 2 # 2 = 0 \
+        dimension 2: 00 dimension 3: 1";
     for (degree, wanted) in [(0, 0), (1, 2), (2, 0), (3, 1)] {
         assert_eq!(rt; count(rt.alloc(), text, degree), Some(wanted));
     }
@@ -108,7 +108,8 @@ fn boundaries_of_boundaries(rt: HostRuntime) {
             1,
         ),
         (
-            "# 1 = 1 * 1 + -1 * 2 # 2 = 3 * 2 dimension 2: 2 # 2 = 1 * 1 + 1 * 2 # 1 = 3 * 2 dimension 3: 0",
+            "# 1 = 1 * 1 + -1 * 2 # 2 = 3 * 2 dimension 2: 2 # 2 = 1 * 1 + 1 * 2 # 1 = 3 * 2 \
+                dimension 3: 0",
             2,
             1,
             2,

@@ -1,5 +1,5 @@
 //! The field at some of its moduli.
-use super::*;
+use field_mod::{Field, MODULI};
 use std::test::Fail;
 
 #[test]

@@ -1,5 +1,5 @@
 //! Chain files that are refused.
-use crate::{ChainCause, ChainFault, TERMS, read_complex};
+use chain_files::{ChainCause, ChainFault, TERMS, read_complex};
 use field_mod::Field;
 use std::alloc::Global;
 use std::test::Fail;
@@ -16,7 +16,8 @@ fn refusal(alloc: Global, text: &[u8]) -> Option<(u64, ChainCause)> {
     }
 }
 
-// The cause with which the text in three parts is refused at the beginning of the last one; nothing where it is not.
+// The cause with which the text in three parts is refused at the beginning of the last one; nothing
+// where it is not.
 fn cause_at(alloc: Global, head: &str, front: &str, back: &str) -> Option<ChainCause> {
     let mut text = String::new(alloc);
     text.push_str(head).ok()?;

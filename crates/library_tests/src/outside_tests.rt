@@ -1,7 +1,10 @@
-//! Each public call once, on values from outside.
+//! The outside: each public call once, on values from outside, and a real file of many blocks.
 ghost use Rattle.std.specs.Prelude.{◌≤◌, ◌^◌, length};
 
-use crate::*;
+use outside::{
+    Failed, Files, Gate, Lexer, MemFiles, MemSink, OpenGate, QuietFiles, QuietSink, ReadFault,
+    RealFiles, RealSink, Sink, Token, put_number, read_whole, send_all,
+};
 use std::alloc::Global;
 use std::fs::File;
 use std::io::Write;
@@ -114,6 +117,55 @@ fn real_files_and_sinks_meet_on_the_disk(rt: HostRuntime) -> Result<(), Fail> {
     fs::remove_file(&rt, name)?;
     refuses(&rt, &mut real, name, 9, ReadFault::Failed);
     refuses(&rt, &mut real, ".", 9, ReadFault::Failed);
+    Ok(())
+}
+
+// As many bytes as three blocks of 65,536 and some more have, no two of which are alike.
+fn long_text(alloc: Global) -> Result<Vec<u8>, Fail> {
+    let mut bytes = Vec::with_capacity(alloc, 200_001)?;
+    for place in 0..200_001usize {
+        bytes.push((place % 251) as u8)?;
+    }
+    Ok(bytes)
+}
+
+// What a file that holds these bytes gives from a place on: as many as there is room for, up to the
+// end.
+fn gives<F: Files>(rt: &impl Abort, files: &mut F, name: &str, bytes: &[u8], at: usize)
+    requires { at ≤ 2 ^ 30 }
+{
+    let mut block = [0u8; 4096];
+    let start = at.min(bytes.len());
+    let end = (at + block.len()).min(bytes.len());
+    match files.read_at(name, at as u64, &mut block) {
+        Ok(n) => {
+            let found = &block[..n];
+            assert!(rt; found == &bytes[start..end], "{n} bytes at {at}");
+        }
+        Err(_) => assert!(rt; false, "no bytes at {at}"),
+    }
+}
+
+#[test]
+fn a_long_real_file_is_read_from_each_place(rt: HostRuntime) -> Result<(), Fail> {
+    let name = "outside_long_file.tmp";
+    let bytes = long_text(rt.alloc())?;
+    assert!(rt; bytes.len() == 200_001);
+    let mut real = RealFiles::of(rt.clone()?);
+    assert_eq!(rt; real.append(name, &bytes[..1], true), Ok(()));
+    assert_eq!(rt; real.append(name, &bytes[1..65_537], false), Ok(()));
+    assert_eq!(rt; real.append(name, &bytes[65_537..], false), Ok(()));
+    holds(&rt, &mut real, name, &bytes)?;
+    for at in [
+        0, 1, 63, 65, 65_535, 65_536, 65_537, 131_072, 196_608, 199_999, 200_000, 200_001, 200_002,
+        265_537,
+    ] {
+        gives(&rt, &mut real, name, &bytes, at);
+    }
+    assert_eq!(rt; real.read_at(name, 70_000, &mut []), Ok(0));
+    fs::remove_file(&rt, name)?;
+    assert_eq!(rt; real.read_at(name, 0, &mut [0u8; 4]), Err(Failed));
+    assert_eq!(rt; real.read_at(".", 0, &mut [0u8; 4]), Err(Failed));
     Ok(())
 }
 
