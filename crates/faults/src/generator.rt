@@ -37,8 +37,8 @@ impl Generator for u32 {
     }
 }
 
-// Adds the coordinates of a corner in brackets, separated by spaces.
-fn put_corner(to: &mut Vec<u8>, corner: &Corner) -> Result<(), NoMemory>
+/// Adds the coordinates of a corner in brackets, separated by spaces.
+pub fn put_corner(to: &mut Vec<u8>, corner: &Corner) -> Result<(), NoMemory>
     ensures { OnOk result (to.new.items ≡ to.old.items ++ corner_text corner.now) }
 {
     to.extend_from_slice(b"(")?;
