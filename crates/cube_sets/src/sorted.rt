@@ -8,7 +8,7 @@ use std::alloc::{AllocError, Global};
 use std::cmp::Ordering;
 
 /// Sorts the values, and keeps one of those that are equal.
-pub(crate) fn sort_distinct<T: Ord + Drop>(values: &mut Vec<T>)
+pub fn sort_distinct<T: Ord + Drop>(values: &mut Vec<T>)
     ensures sorted { IsStrictlySortedBy T.cmp values.new.items }
     ensures members { (x : T) → has T.cmp values.new.items x ≡ has T.cmp values.old.items x }
     ensures kept { (p : T → Bool)
