@@ -35,10 +35,10 @@ pub record IsExtended (p n r s : ℕ) (a : ℕ → ℕ → ℕ) (row : ℕ → �
 
 -- the rows are in reduced form and have the kernel of the matrix a, which has m rows
 pub record IsReduction (p n m : ℕ) (a : ℕ → ℕ → ℕ) (rows : List (List ℕ)) (pivots : List ℕ) : Type 0
-    where
-  pub form : HasEchelon p n rows pivots
-  pub forth : (v : ℕ → ℕ) → IsInKernel p m n a v → IsInKernel p (length rows) n (cell rows) v
-  pub back : (v : ℕ → ℕ) → IsInKernel p (length rows) n (cell rows) v → IsInKernel p m n a v
+  where
+    pub form : HasEchelon p n rows pivots
+    pub forth : (v : ℕ → ℕ) → IsInKernel p m n a v → IsInKernel p (length rows) n (cell rows) v
+    pub back : (v : ℕ → ℕ) → IsInKernel p (length rows) n (cell rows) v → IsInKernel p m n a v
 
 -- the columns below n without a pivot, each once
 pub record AreFree (n : ℕ) (pivots free : List ℕ) : Type 0 where

@@ -25,7 +25,7 @@ fn clear_row<const P: u16>(f: Field<P>, echelon: &Echelon<P>, row: &mut Row<P>)
     ensures kernel { (v : ℕ → ℕ) → IsInKernel P (length echelon.now.rows.items) (length row.old)
         (cell echelon.now.rows.items) v
         → Same P (along (length row.old) (slice_index row.new) v)
-            (along (length row.old) (slice_index row.old) v) }
+        (along (length row.old) (slice_index row.old) v) }
 {
     for k in 0..echelon.rows.len() {
         let by = f.neg(row.entry(echelon.pivots[k]));
@@ -43,7 +43,7 @@ fn clear_column<const P: u16>(f: Field<P>, rows: &mut Vec<Row<P>>, c: usize, row
         → length (slice_index_or rows.new.items k []) ≡ length row.now }
     ensures value { (k j : ℕ) → k < length rows.old.items → j < length row.now
         → Same P (cell rows.new.items k j)
-            (cell rows.old.items k j + minus P (cell rows.old.items k c) * slice_index row.now j) }
+        (cell rows.old.items k j + minus P (cell rows.old.items k c) * slice_index row.now j) }
 {
     for k in 0..rows.len() {
         let other = &mut rows[k];
@@ -89,7 +89,7 @@ impl<const P: u16> Echelon<P> {
         ensures { MatchOption result ((k : ℕ) → k < length self.now.pivots.items
             → slice_index self.now.pivots.items k ≢ column)
             (λ k. (k < length self.now.pivots.items)
-                × (slice_index self.now.pivots.items k ≡ column)) }
+            × (slice_index self.now.pivots.items k ≡ column)) }
     {
         for k in 0..self.pivots.len() {
             if self.pivots[k] == column {
@@ -138,7 +138,7 @@ impl<const P: u16> Echelon<P> {
         ensures below { IfOk result (λ v. (l : ℕ) → l < n → slice_index v.items l < P) }
         ensures value { IfOk result (λ v. (l : ℕ) → l < n → Same P (slice_index v.items l)
             (kernel_matrix P (length self.now.rows.items) (cell self.now.rows.items)
-                (slice_index self.now.pivots.items) l c)) }
+            (slice_index self.now.pivots.items) l c)) }
     {
         let mut vector = vec![in alloc; 0u16; n]?;
         vector[c] = 1;

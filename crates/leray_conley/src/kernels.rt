@@ -40,9 +40,9 @@ impl<const P: u16> Matrix<P> {
     pub fn left_vector(&self, alloc: Global, f: Field<P>) -> Result<Option<Vec<u16>>, AllocError>
         ensures { IfOk result (λ o. MatchOption o
             ((v : ℕ → ℕ) → IsKilled P self.now.columns self.now.rows (transpose (entry self.now)) v
-                → ⊥)
+            → ⊥)
             (λ v. IsKernelVector P self.now.columns self.now.rows (transpose (entry self.now))
-                v.items)) }
+            v.items)) }
     {
         self.transposed(alloc)?.kernel_vector(alloc, f)
     }

@@ -53,7 +53,7 @@ fn kernel_rows<const P: u16>(
     ensures value { IfOk result (λ m. (t l : ℕ) → t < length free.now → l < size
         → Same P (entry m t l)
         (kernel_matrix P (length echelon.now.rows.items) (cell echelon.now.rows.items)
-            (slice_index echelon.now.pivots.items) l (slice_index free.now t))) }
+        (slice_index echelon.now.pivots.items) l (slice_index free.now t))) }
 {
     let width = size as usize;
     let mut entries = Vec::new(alloc);

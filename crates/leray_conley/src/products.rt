@@ -56,8 +56,8 @@ impl<const P: u16> Matrix<P> {
         requires bound { self.now.rows * other.now.rows ≤ 16777216 }
         ensures { IfOk result
             (HasEntries self.now.rows other.now.rows
-                (λ i j. product self.now.columns (entry self.now) (transpose (entry other.now)) i j
-                % P)) }
+            (λ i j. product self.now.columns (entry self.now) (transpose (entry other.now)) i j
+            % P)) }
     {
         let columns = other.rows();
         let count = self.rows() * columns;
@@ -80,7 +80,7 @@ impl<const P: u16> Matrix<P> {
         requires bound { self.now.rows * other.now.columns ≤ 16777216 }
         ensures { IfOk result
             (HasEntries self.now.rows other.now.columns
-                (λ i j. product self.now.columns (entry self.now) (entry other.now) i j % P)) }
+            (λ i j. product self.now.columns (entry self.now) (entry other.now) i j % P)) }
     {
         let turned = other.transposed(alloc)?;
         self.times_transposed(alloc, &turned)
