@@ -14,7 +14,7 @@ mod terms;
 pub use cause::Cause;
 pub use chain::put_chain;
 pub use fault::{Fault, fault_text};
-pub use generator::{Generator, put_corner};
+pub use generator::Generator;
 pub use limit_name::LimitName;
 pub use name::Name;
 pub use status::Status;

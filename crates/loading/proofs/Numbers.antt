@@ -20,8 +20,8 @@ pub limits : LimitsOfSets
 limits kind name read count number (inl h) = inl (found h)
   where
     found : Finds read file_bytes name (Err (Limit count number)) → (count ≡ FileBytes) × (number ≡ file_bytes)
-    found (inl (e, t)) = cc
-    found (inr (e, u)) = cc
+    found (inl (f, e, t)) = cc
+    found (inr (t, e)) = cc
 limits kind name read count number (inr (text, f, (place, cause, refused, is))) = inr (by cause is)
   where
     by : (cause : TextCause) → Limit count number ≡ text_fault name place cause → (count ≡ Cubes) × (number ≡ most_cubes)
@@ -37,8 +37,8 @@ limits kind name read count number (inr (text, f, (place, cause, refused, is))) 
 
 -- no refusal of a set is that of a dimension
 never_of_a_set : (kind : Kind) (name : List ℕ) (read : Reading) (other : List ℕ) (found before : ℕ) → IsSetIn kind name read (Err (Dimension other found before)) → ⊥
-never_of_a_set kind name read other found before (inl (inl (e, t))) = cc
-never_of_a_set kind name read other found before (inl (inr (e, u))) = cc
+never_of_a_set kind name read other found before (inl (inl (f, e, t))) = cc
+never_of_a_set kind name read other found before (inl (inr (t, e))) = cc
 never_of_a_set kind name read other found before (inr (text, f, (place, cause, refused, is))) = by cause is
   where
     by : (cause : TextCause) → Dimension other found before ≡ text_fault name place cause → ⊥
