@@ -9,7 +9,6 @@ pub mod Gathering
 pub mod Readings
 pub mod Finishing
 pub mod SetFiles
-pub mod Writing
 pub mod Few
 pub mod Telling
 pub mod Rereading

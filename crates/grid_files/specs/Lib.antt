@@ -1,3 +1,4 @@
+pub use Rattle.corner_texts.specs.CornerText
 pub use Rattle.cube_sets.specs.Sorted
 pub use Rattle.cube_sets.specs.Sets
 pub use Rattle.cube_sets.specs.Closures

@@ -1,5 +1,11 @@
 //! Laws of set files: each is the contract of a function that does nothing.
-ghost use Rattle.grid_files.specs.Laws.{TextsHaveOneOutcome, WrittenSetsAreRead};
+ghost use Rattle.grid_files.specs.Laws.{KeywordIsOfTheFormat, TextsHaveOneOutcome, WrittenSetsAreRead};
+
+/// The keyword of the program is the word that the grammar states; its numbers are those of
+/// `elem_cubes::range_is_of_the_formats` and `cube_sets::limit_is_of_the_formats`.
+pub fn keyword_is_of_the_format()
+    ensures { KeywordIsOfTheFormat }
+{}
 
 /// A text has exactly one value, or is refused at exactly one place with one cause.
 pub fn texts_have_one_outcome()
