@@ -5,7 +5,7 @@ ghost use Rattle.chain_files.specs.Complexes.{IsFileComplex};
 ghost use Rattle.basis_reports.specs.Right.{IsRightFile, AreAsShown};
 
 use crate::bases::cycles_by_degree;
-use crate::counting::dimensions_of;
+use crate::dimensions::dimensions_of;
 use crate::naming::InDegrees;
 use algebraic_reduction::Log;
 use chain_files::ChainFile;

@@ -4,7 +4,7 @@ ghost use Rattle.cell_complex.specs.CellCount.{cell_count};
 ghost use Rattle.basis_reports.specs.Right.{IsRightPair, AreAsShown};
 
 use crate::bases::cycles_by_degree;
-use crate::counting::dimensions_of;
+use crate::dimensions::dimensions_of;
 use cell_complex::CellsFault;
 use cell_complex::CELLS;
 use field_mod::Field;

@@ -1,7 +1,7 @@
 use Rattle.std.proofs.Common.{ℕ, List, refl, sym, subst, length}
 use Rattle.basis_reports.specs.Counting.{HasBases}
 use Rattle.basis_reports.proofs.RightPairs.{has_bases}
-use Rattle.basis_reports.proofs.counting.dimensions_of.Goals as goal
+use Rattle.basis_reports.proofs.dimensions.dimensions_of.Goals as goal
 
 pub returns-clause-bases : goal.returns-clause-bases
 returns-clause-bases g c =
