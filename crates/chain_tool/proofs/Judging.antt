@@ -1,17 +1,21 @@
 -- The jobs of this crate are judged in one way.
-use Rattle.std.proofs.Common.{◌≡◌, ℕ, List, Result, Ok, Err, refl, sym, ap, ◌∙◌, ◌⊎◌, inl, inr}
+use Rattle.std.proofs.Common.{◌≡◌, ℕ, List, [], ◌∷◌, Result, Ok, Err, refl, sym, ap, ◌∙◌, subst, ◌⊎◌, inl, inr}
 use Rattle.chain_files.specs.Content.{Content}
 use Rattle.chain_files.specs.ChainFile.{HasValue, IsRefusedAt}
 use Rattle.chain_files.specs.Complexes.{SquaresToZero, IsNotComplexAt}
 use Rattle.chain_files.specs.declared.fault.ChainCause.{ChainCause}
+use Rattle.chain_files.specs.declared.fault.ChainCause.TheVariants.{BadByte, BadNumber, Unclosed, UnknownGenerator, RepeatedGenerator, TooManyGenerators, TooManyTerms}
 use Rattle.chain_files.proofs.Outcomes.{one_outcome as chain_outcome}
 use Rattle.chain_files.proofs.Squares.{one_outcome as value_outcome}
-use Rattle.report.specs.declared.fault.Fault.{Fault}
-use Rattle.report.specs.declared.fault.Fault.TheVariants.{NotComplex}
-use Rattle.loading.specs.Steps.{Is, IsOne}
-use Rattle.loading.specs.Readings.{Reading, file_bytes}
+use Rattle.faults.specs.declared.fault.Fault.{Fault}
+use Rattle.faults.specs.declared.fault.Fault.TheVariants.{NotComplex}
+use Rattle.loading.specs.Steps.{IsOne}
+use Rattle.loading.specs.Readings.{Finds, file_bytes}
 use Rattle.loading.specs.Jobs.{HasOneJudgement}
-use Rattle.loading.proofs.Judging.{settled, then_one, IsSettled, judged_once}
+use Rattle.loading.proofs.Steps.{then_one}
+use Rattle.loading.proofs.OfFiles.{IsPlain, IsMade, IsOfFiles, made, of_file, then_files}
+use Rattle.loading.proofs.Loading.{named_itself}
+use Rattle.loading.proofs.Judging.{IsSettled, judged_once}
 use Rattle.chain_tool.specs.declared.homchain.ChainJob.{ChainJob}
 use Rattle.chain_tool.specs.Contents.{chain_fault, IsValueOf, IsComplexOf, IsContentOf, IsContentIn}
 use Rattle.chain_tool.specs.Jobs.{chain_job}
@@ -54,16 +58,43 @@ same_complex p name content (Err f) (Err g) h k =
 complex_one : (p : ℕ) (name : List ℕ) (content : Content) → IsOne (IsComplexOf p name content)
 complex_one p name content = let o = complex_outcome p name content (value_outcome.some p content) in record { outcome = o.0; holds = o.1; one = same_complex p name content }
 
-content_in_one : (p : ℕ) (name : List ℕ) (read : Reading) → IsOne (IsContentIn p name read)
-content_in_one p name read = then_one (Is (read file_bytes name)) (IsContentOf p name) (settled (read file_bytes name))
-    (λ text. then_one (IsValueOf p name text) (IsComplexOf p name) (read_one p name text) (complex_one p name))
+-- ---- refusals of a text rest on no count
+
+value_plain : (p : ℕ) (name text : List ℕ) (fault : Fault) → IsValueOf p name text (Err fault) → IsPlain fault
+value_plain p name text fault (place, cause, refused, e) = subst IsPlain (sym e) (by cause)
+  where
+    by : (cause : ChainCause) → IsPlain (chain_fault name place cause)
+    by BadByte = tt
+    by BadNumber = tt
+    by Unclosed = tt
+    by UnknownGenerator = tt
+    by RepeatedGenerator = tt
+    by TooManyGenerators = tt
+    by TooManyTerms = tt
+
+complex_plain : (p : ℕ) (name : List ℕ) (content : Content) (fault : Fault) → IsComplexOf p name content (Err fault) → IsPlain fault
+complex_plain p name content fault (degree, generator, at, value, first, e) = subst IsPlain (sym e) tt
+
+pub content_plain : (p : ℕ) (name text : List ℕ) (fault : Fault) → IsContentOf p name text (Err fault) → IsPlain fault
+content_plain p name text fault (inl r) = value_plain p name text fault r
+content_plain p name text fault (inr (content, value, r)) = complex_plain p name content fault r
+
+content_made : (p : ℕ) (name text : List ℕ) → IsMade (IsContentOf p name text)
+content_made p name text = record {
+  one = then_one (IsValueOf p name text) (IsComplexOf p name) (read_one p name text) (complex_one p name);
+  plain = content_plain p name text;
+}
+
+content_in_file : (p : ℕ) (name : List ℕ) → IsOfFiles (name ∷ []) (IsContentIn p name)
+content_in_file p name = then_files (name ∷ []) (λ read. Finds read file_bytes name) (λ read. IsContentOf p name)
+    (of_file (name ∷ []) file_bytes name (named_itself [] name)) (λ text. made (name ∷ []) (IsContentOf p name text) (content_made p name text))
 
 -- ---- the job
 
 pub chain_once : (job : ChainJob) → HasOneJudgement (chain_job job)
 unfolding chain_job
 chain_once job = judged_once (chain_job job) (record {
-  files = content_in_one job.modulus job.file;
+  files = content_in_file job.modulus job.file;
   found = λ content. inr (λ fault r. r);
   alike = λ content f g r s. absurd r;
   before = λ content fault r e. r;

@@ -5,12 +5,12 @@ use Rattle.chain_files.specs.ChainFile.{HasValue, IsRefusedAt}
 use Rattle.chain_files.specs.Complexes.{SquaresToZero, IsNotComplexAt}
 use Rattle.chain_files.specs.declared.fault.ChainCause.{ChainCause}
 use Rattle.chain_files.specs.declared.fault.ChainCause.TheVariants as texts
-use Rattle.report.specs.declared.cause.Cause.TheVariants as causes
-use Rattle.report.specs.declared.fault.Fault.{Fault}
-use Rattle.report.specs.declared.fault.Fault.TheVariants.{BadText, NotComplex, Limit}
-use Rattle.report.specs.declared.limit_name.LimitName.TheVariants.{Generators, Terms}
-use Rattle.loading.specs.Steps.{Then, Is}
-use Rattle.loading.specs.Readings.{Reading, file_bytes}
+use Rattle.faults.specs.declared.cause.Cause.TheVariants as causes
+use Rattle.faults.specs.declared.fault.Fault.{Fault}
+use Rattle.faults.specs.declared.fault.Fault.TheVariants.{BadText, NotComplex, Limit}
+use Rattle.faults.specs.declared.limit_name.LimitName.TheVariants.{Generators, Terms}
+use Rattle.loading.specs.Steps.{Then}
+use Rattle.loading.specs.Readings.{Reading, Finds, file_bytes}
 
 -- the most generators and terms of one chain file
 abbrev pub most_generators : ℕ
@@ -47,4 +47,4 @@ IsContentOf p name text = Then (IsValueOf p name text) (IsComplexOf p name)
 
 -- the complex of a file: its reading, and then its text
 abbrev pub IsContentIn : ℕ → List ℕ → Reading → Result Content Fault → Type 0
-IsContentIn p name read = Then (Is (read file_bytes name)) (IsContentOf p name)
+IsContentIn p name read = Then (Finds read file_bytes name) (IsContentOf p name)

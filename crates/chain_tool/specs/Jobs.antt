@@ -1,7 +1,7 @@
 -- What `homchain` is asked to do.
 use Rattle.std.specs.Prelude.{◌≡◌, ℕ, List, [], ◌∷◌}
 use Rattle.chain_files.specs.Content.{Content}
-use Rattle.report.specs.declared.fault.Fault.{Fault}
+use Rattle.faults.specs.declared.fault.Fault.{Fault}
 use Rattle.report.specs.declared.reports.Report.TheVariants.{Chain}
 use Rattle.report.specs.declared.reports.Shown.{Shown}
 use Rattle.report.specs.ReportText.{report_text}

@@ -1,6 +1,6 @@
 //! The tool `homchain`: the homology of the complex of a chain file.
 ghost use Rattle.std.specs.Prelude.{◌≡◌, ◌⊎◌, IfOk, IfErr, Ok, Err};
-ghost use Rattle.report.specs.declared.fault.Fault.TheVariants.{OutOfMemory};
+ghost use Rattle.faults.specs.declared.fault.Fault.TheVariants.{OutOfMemory};
 ghost use Rattle.chain_files.specs.Content.{Content};
 ghost use Rattle.chain_files.specs.Complexes.{IsFileComplex};
 ghost use Rattle.basis_reports.specs.Right.{IsRightFile, AreAsShown};
@@ -8,13 +8,14 @@ ghost use Rattle.loading.specs.Jobs.{Answers};
 ghost use Rattle.chain_tool.specs.Contents.{IsContentOf};
 ghost use Rattle.chain_tool.specs.Jobs.{chain_job, shown_of};
 
-use crate::faults::{chain_fault, not_complex};
+use crate::refusals::{chain_fault, not_complex};
 use basis_reports::{Modulus, file_homology};
 use chain_files::{ChainFault, ChainFile, read_complex};
+use faults::{Fault, Name};
 use field_mod::{Field, by_modulus};
 use loading::{Answer, FILE_BYTES, answer_of, load_bytes};
 use outside::Files;
-use report::{Cycles, Dimensions, Fault, Name, Report, Shown};
+use report::{Cycles, Dimensions, Report, Shown};
 use std::alloc::Global;
 
 /// What the tool is asked to do.
@@ -81,10 +82,8 @@ fn homology_over<const P: u16>(
 {
     let file = complex_of(alloc, field, &job.file, &bytes)?;
     drop(bytes);
-    match file_homology(alloc, field, file, job.cycles) {
-        Ok(made) => Ok(made),
-        Err(_) => Err(Fault::OutOfMemory),
-    }
+    let (dimensions, cycles) = file_homology(alloc, field, file, job.cycles)?;
+    Ok((dimensions, cycles))
 }
 
 // The complex of the text of a file.

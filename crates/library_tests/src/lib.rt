@@ -5,3 +5,7 @@
 mod basis_tests;
 #[cfg(test)]
 mod cell_complex_tests;
+#[cfg(test)]
+mod fault_tests;
+#[cfg(test)]
+mod report_tests;

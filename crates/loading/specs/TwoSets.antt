@@ -2,8 +2,8 @@
 use Rattle.std.specs.Prelude.{◌≡◌, ◌≤◌, ◌*◌, ◌+◌, ℕ, List, ◌∷◌, length, if◌then◌else◌, Option, unwrap_or, Result, Ok, Err, IsTrue}
 use Rattle.cube_sets.specs.Sets.{Members, dimensions_agree}
 use Rattle.grid_files.specs.declared.fault.Kind.TheVariants.{Any}
-use Rattle.report.specs.declared.fault.Fault.{Fault}
-use Rattle.report.specs.declared.fault.Fault.TheVariants.{Dimension}
+use Rattle.faults.specs.declared.fault.Fault.{Fault}
+use Rattle.faults.specs.declared.fault.Fault.TheVariants.{Dimension}
 use Rattle.loading.specs.Steps.{Then, Is}
 use Rattle.loading.specs.Readings.{Reading, read_bytes}
 use Rattle.loading.specs.Sets.{IsSetIn, IsSubsetIn, and_subset, most_cubes}

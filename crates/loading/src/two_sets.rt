@@ -3,13 +3,12 @@ ghost use Rattle.std.specs.Prelude.{◌≡◌, ◌≤◌, length, IsTrue, IfOk, 
 ghost use Rattle.cube_sets.specs.Sets.{dimensions_agree};
 ghost use Rattle.loading.specs.Steps.{IsDue};
 ghost use Rattle.loading.specs.Loads.{Loads};
-ghost use Rattle.loading.specs.TwoSets.{two_names, two_bytes, second_name, two_sets, AreTwoSetsIn, AreOperands};
+ghost use Rattle.loading.specs.TwoSets.{two_bytes, second_name, two_sets, AreTwoSetsIn, AreOperands};
 
 use crate::files::{copy_of, load_set, load_subset};
-use cube_sets::{CUBES, CubeSet};
-use grid_files::Kind;
+use faults::{Fault, Name};
+use grid_files::{CUBES, CubeSet, Kind};
 use outside::Files;
-use report::{Fault, Name};
 use std::alloc::Global;
 
 /// Two sets.
@@ -29,8 +28,8 @@ pub fn load_two_sets<F: Files>(
     x: &Name,
     y: Option<&Name>,
 ) -> Result<TwoSets, Fault>
-    ensures loads { Loads (two_names x.now (option_copied y)) (two_bytes (option_copied y))
-        (AreTwoSetsIn x.now (option_copied y)) (F.seen files.old) (F.seen files.new) result }
+    ensures loads { Loads (two_bytes (option_copied y)) (AreTwoSetsIn x.now (option_copied y))
+        (F.seen files.old) (F.seen files.new) result }
     ensures operands { IfOk result AreOperands }
 {
     let first = load_set(alloc, files, x, Kind::Any)?;

@@ -1,12 +1,13 @@
 -- The text of the homology of a pair.
 use Rattle.std.proofs.Common.{◌≡◌, ℕ, ◌≤◌, List, Result, Ok, Err, IfOk, IfErr, ap, ◌∙◌, inr}
 use Rattle.basis_reports.specs.Right.{AreAsShown}
-use Rattle.report.specs.declared.fault.Fault.{Fault}
-use Rattle.report.specs.declared.fault.Fault.TheVariants.{OutOfMemory}
+use Rattle.faults.specs.declared.fault.Fault.{Fault}
+use Rattle.faults.specs.declared.fault.Fault.TheVariants.{OutOfMemory}
 use Rattle.report.specs.declared.pair.PairReport.{PairReport}
 use Rattle.report.specs.declared.reports.Report.TheVariants.{Pair}
 use Rattle.report.specs.declared.reports.Shown.{Shown}
-use Rattle.report.specs.ReportText.{report_text, cell_text}
+use Rattle.faults.specs.ChainText.{cell_text}
+use Rattle.report.specs.ReportText.{report_text}
 use Rattle.basis_reports.proofs.Showing.{same_lines}
 use Rattle.loading.specs.Jobs.{Computes}
 use Rattle.loading.specs.declared.two_sets.TwoSets.{TwoSets}

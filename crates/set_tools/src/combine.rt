@@ -9,9 +9,9 @@ ghost use Rattle.set_tools.specs.Jobs.{combination_job, RefusesCombination, IsCo
 
 use crate::texts::{answer_of, too_many};
 use cube_sets::{CUBES, CubeSet};
+use faults::{Fault, Name};
 use loading::{Answer, TwoSets, load_two_sets};
 use outside::Files;
-use report::{Fault, Name};
 use std::alloc::{AllocError as NoMemory, Global};
 
 /// How two sets are combined.
@@ -52,9 +52,7 @@ fn compute(alloc: Global, combination: Combination, sets: &TwoSets) -> Result<An
     requires { AreOperands sets.now }
     ensures { Computes (RefusesCombination combination) (IsCombinationText combination) sets.now result }
 {
-    let Ok(set) = combined(alloc, combination, &sets.x, &sets.y) else {
-        return Err(Fault::OutOfMemory);
-    };
+    let set = combined(alloc, combination, &sets.x, &sets.y)?;
     if set.len() > CUBES {
         return Err(too_many());
     }

@@ -1,12 +1,7 @@
 use Rattle.std.proofs.Common.{option_copied}
 use Rattle.std.proofs.lemmas.Result.{err_from_is_err_and}
-use Rattle.loading.proofs.LoadingTwo.{first_refused, second_refused, two_load}
+use Rattle.loading.proofs.LoadingTwo.{second_refused, two_load}
 use Rattle.loading.proofs.two_sets.load_two_sets.Goals as goal
-
-pub returns-in_err-first-clause-loads : goal.returns-in_err-first-clause-loads
-returns-in_err-first-clause-loads g c =
-    let p = err_from_is_err_and c.from_residual.result c.from_residual.ensures.1 in
-    rw (p.1, p.2) (first_refused c.args.x.now (option_copied c.args.y) (g.F.Files.seen c.args.files.now) (g.F.Files.seen c.load_set.new.files) c.in_err-first.field-0.0 c.in_err-first.ensures.loads)
 
 pub returns-in_err-second-clause-loads : goal.returns-in_err-second-clause-loads
 returns-in_err-second-clause-loads g c =

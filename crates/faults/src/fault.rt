@@ -1,6 +1,6 @@
 //! Why a run did not print its report, and the line that it prints then.
 ghost use Rattle.std.specs.Prelude.{◌≡◌, ◌++◌, IfOk, OnOk};
-ghost use Rattle.report.specs.FaultText.{fault_text};
+ghost use Rattle.faults.specs.FaultText.{fault_text};
 
 use crate::{Cause, LimitName, Name};
 use itoa::{Buffer, Integer};
@@ -61,14 +61,24 @@ pub enum Fault {
     OutOfMemory,
 }
 
+impl From<NoMemory> for Fault {
+    ghost use Rattle.faults.specs.declared.fault.Fault.TheVariants.{OutOfMemory};
+
+    ghost from_gives = { λ _ fault. fault ≡ OutOfMemory };
+
+    fn from(_: NoMemory) -> Fault {
+        Fault::OutOfMemory
+    }
+}
+
 /// The line that is printed for a fault, with its line feed.
 pub fn fault_text(alloc: Global, fault: &Fault) -> Result<Vec<u8>, NoMemory>
     ensures { IfOk result (λ line. line.items ≡ fault_text fault.now) }
 {
     match fault {
         Fault::NoTool => Vec::from_slice(alloc, b"error: words: no tool of that name\n"),
-        Fault::NotAForm { tool } => framed(alloc, b"error: words: not a form of ", tool, b"\n"),
-        Fault::CannotRead { name } => framed(alloc, b"error: cannot read ", name, b"\n"),
+        Fault::NotAForm { tool } => frame(alloc, b"error: words: not a form of ", tool, b"\n"),
+        Fault::CannotRead { name } => frame(alloc, b"error: cannot read ", name, b"\n"),
         Fault::BadText { name, place, cause } => bad_text(alloc, name, *place, *cause),
         Fault::NotComplex {
             name,
@@ -89,7 +99,7 @@ pub fn fault_text(alloc: Global, fault: &Fault) -> Result<Vec<u8>, NoMemory>
 }
 
 // A name between two texts.
-fn framed(alloc: Global, before: &[u8], name: &Name, after: &[u8]) -> Result<Vec<u8>, NoMemory>
+fn frame(alloc: Global, before: &[u8], name: &Name, after: &[u8]) -> Result<Vec<u8>, NoMemory>
     ensures { IfOk result (λ line. line.items ≡ before.now ++ name.now ++ after.now) }
 {
     let mut line = Vec::from_slice(alloc, before)?;
@@ -111,7 +121,7 @@ fn put_after<I: Integer>(to: &mut Vec<u8>, before: &[u8], number: I) -> Result<(
 fn bad_text(alloc: Global, name: &Name, place: u64, cause: Cause) -> Result<Vec<u8>, NoMemory>
     ensures { IfOk result (λ line. line.items ≡ fault_text (Fault.BadText name.now place cause)) }
 {
-    let mut line = framed(alloc, b"error: ", name, b": byte ")?;
+    let mut line = frame(alloc, b"error: ", name, b": byte ")?;
     put_after(&mut line, b"", place)?;
     line.extend_from_slice(b": ")?;
     line.extend_from_slice(cause.as_str().as_bytes())?;
@@ -130,7 +140,7 @@ fn not_complex_text(
 ) -> Result<Vec<u8>, NoMemory>
     ensures { IfOk result (λ line. line.items ≡ fault_text (Fault.NotComplex name.now degree generator value at)) }
 {
-    let mut line = framed(alloc, b"error: ", name, b": dimension ")?;
+    let mut line = frame(alloc, b"error: ", name, b": dimension ")?;
     put_after(&mut line, b"", degree)?;
     put_after(&mut line, b": # ", generator)?;
     put_after(&mut line, b": boundary of boundary has ", value)?;
@@ -143,7 +153,7 @@ fn not_complex_text(
 fn dimension_text(alloc: Global, name: &Name, found: u8, before: u8) -> Result<Vec<u8>, NoMemory>
     ensures { IfOk result (λ line. line.items ≡ fault_text (Fault.Dimension name.now found before)) }
 {
-    let mut line = framed(alloc, b"error: ", name, b": dimension ")?;
+    let mut line = frame(alloc, b"error: ", name, b": dimension ")?;
     put_after(&mut line, b"", found)?;
     put_after(&mut line, b", but ", before)?;
     line.extend_from_slice(b" before\n")?;

@@ -1,7 +1,6 @@
 //! Generators of chains, as they are printed.
 ghost use Rattle.std.specs.Prelude.{◌≡◌, ◌++◌, OnOk, List, ℕ, drop, false};
-ghost use Rattle.grid_files.specs.Written.{spaced, next_text, corner_text};
-ghost use Rattle.report.specs.ReportText.{cell_text, number_text};
+ghost use Rattle.faults.specs.ChainText.{spaced, next_text, corner_text, cell_text, number_text};
 
 use elem_cubes::{Cell, Corner};
 use itoa::Buffer;

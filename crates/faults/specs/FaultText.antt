@@ -1,11 +1,11 @@
 -- The lines that are printed on faults.
 use Rattle.std.specs.Prelude.{ℕ, List, ◌++◌, codes, decimal}
-use Rattle.report.specs.declared.cause.Cause.{Cause}
-use Rattle.report.specs.declared.cause.Cause.TheVariants.{BadByte, BadNumber, NotClosed, MixedDimension, DimensionTooLarge, CoordinateTooLarge, NotElementary, NotFull, UnknownGenerator, RepeatedGenerator}
-use Rattle.report.specs.declared.fault.Fault.{Fault}
-use Rattle.report.specs.declared.fault.Fault.TheVariants.{NoTool, NotAForm, CannotRead, BadText, NotComplex, Dimension, Limit, CannotWriteOut, OutOfMemory}
-use Rattle.report.specs.declared.limit_name.LimitName.{LimitName}
-use Rattle.report.specs.declared.limit_name.LimitName.TheVariants.{FileBytes, Cubes, Cells, Generators, Terms, Coordinates}
+use Rattle.faults.specs.declared.cause.Cause.{Cause}
+use Rattle.faults.specs.declared.cause.Cause.TheVariants.{BadByte, BadNumber, NotClosed, MixedDimension, DimensionTooLarge, CoordinateTooLarge, NotElementary, NotFull, UnknownGenerator, RepeatedGenerator}
+use Rattle.faults.specs.declared.fault.Fault.{Fault}
+use Rattle.faults.specs.declared.fault.Fault.TheVariants.{NoTool, NotAForm, CannotRead, BadText, NotComplex, Dimension, Limit, CannotWriteOut, OutOfMemory}
+use Rattle.faults.specs.declared.limit_name.LimitName.{LimitName}
+use Rattle.faults.specs.declared.limit_name.LimitName.TheVariants.{FileBytes, Cubes, Cells, Generators, Terms, Coordinates}
 
 -- the name of a count that has a limit
 abbrev pub limit_name : LimitName → List ℕ

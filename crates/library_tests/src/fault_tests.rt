@@ -1,5 +1,5 @@
 //! Each fault and its line.
-use crate::{Cause, Fault, LimitName, Name, fault_text};
+use faults::{Cause, Fault, LimitName, Name, Status, fault_text};
 use std::alloc::Global;
 use std::process::Abort;
 use std::test::Fail;
@@ -158,5 +158,47 @@ fn limits_have_their_names(rt: HostRuntime) -> Result<(), Fail> {
         };
         check(&rt, alloc, &fault, *line)?;
     }
+    Ok(())
+}
+
+#[test]
+fn faults_have_their_statuses(rt: HostRuntime) -> Result<(), Fail> {
+    let alloc = rt.alloc();
+    let rows = [
+        (Fault::NoTool, Status::Words, 2),
+        (
+            Fault::Dimension {
+                name: Name::of(alloc, "a")?,
+                found: 1,
+                before: 2,
+            },
+            Status::Text,
+            3,
+        ),
+        (
+            Fault::CannotRead {
+                name: Name::of(alloc, "a")?,
+            },
+            Status::Read,
+            4,
+        ),
+        (Fault::CannotWriteOut, Status::Write, 5),
+        (Fault::OutOfMemory, Status::NoMemory, 6),
+        (
+            Fault::Limit {
+                count: LimitName::Cubes,
+                number: 1,
+            },
+            Status::Limit,
+            8,
+        ),
+    ];
+    for (fault, status, number) in &rows {
+        let found = Status::of(fault);
+        assert_eq!(rt; found, *status);
+        assert_eq!(rt; found.number(), *number);
+    }
+    let done = Status::Done.number();
+    assert_eq!(rt; done, 0);
     Ok(())
 }

@@ -1,6 +1,6 @@
 //! The counts that have a limit.
 ghost use Rattle.std.specs.Prelude.{◌≡◌, Some};
-ghost use Rattle.report.specs.FaultText.{limit_name};
+ghost use Rattle.faults.specs.FaultText.{limit_name};
 
 use std::fmt;
 

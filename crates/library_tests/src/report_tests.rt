@@ -1,10 +1,8 @@
 //! Reports and their texts.
-ghost use Rattle.std.specs.Prelude.{IfOk};
-ghost use Rattle.report.specs.ReportText.{HasText};
-
-use crate::{Cycles, Dimensions, PairReport, Report, Shown, Terms, text};
 use elem_cubes::{Cell, Corner};
-use grid_files::{CUBES, Kind, read_set};
+use faults::Terms;
+use grid_files::{CUBES, Kind, read_set, write_set};
+use report::{Cycles, Dimensions, PairReport, Report, Shown, text};
 use std::alloc::Global;
 use std::test::Fail;
 
@@ -34,9 +32,7 @@ fn loop_of_edges(alloc: Global) -> Result<Terms<Cell>, Fail> {
 }
 
 // The report on the square's border: one component, one loop.
-fn border(alloc: Global) -> Result<Report, Fail>
-    ensures { IfOk result HasText }
-{
+fn border(alloc: Global) -> Result<Report, Fail> {
     let mut points = Vec::new(alloc);
     if let Some(point) = cell(&[0, 0], 0) {
         points.push((point, 1))?;
@@ -114,7 +110,7 @@ fn sets_are_printed_in_their_written_form(rt: HostRuntime) -> Result<(), Fail> {
     let set = read_set(alloc, b"(1) (0) [(5)(5)]", Kind::Any)?;
     let few = set.len() <= CUBES;
     assert!(rt; few);
-    let text = text(alloc, &Report::Set(set), &PLAIN)?;
+    let text = write_set(alloc, &set)?;
     assert_eq!(rt;
         text.as_slice(),
         b"dimension 1\n(0)\n(1)\n[(5)(5)]\n".as_slice()

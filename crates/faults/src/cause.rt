@@ -1,6 +1,6 @@
 //! Why a text is refused at a place.
 ghost use Rattle.std.specs.Prelude.{◌≡◌, Some};
-ghost use Rattle.report.specs.FaultText.{cause_text};
+ghost use Rattle.faults.specs.FaultText.{cause_text};
 
 use std::fmt;
 

@@ -3,7 +3,7 @@ ghost use Rattle.std.specs.Prelude.{◌≡◌, ◌⊎◌};
 ghost use Rattle.chain_tool.specs.Contents.{chain_fault};
 
 use chain_files::{ChainCause, GENERATORS, TERMS};
-use report::{Cause, Fault, LimitName, Name};
+use faults::{Cause, Fault, LimitName, Name};
 use std::alloc::Global;
 
 /// The refusal of a file whose boundary of a boundary is not 0.
