@@ -4,8 +4,8 @@ use Rattle.elem_cubes.specs.Cells.{Factor}
 use Rattle.elem_cubes.specs.Order.{cell_cmp}
 use Rattle.cube_sets.specs.Sets.{Members, holds}
 use Rattle.cube_sets.specs.Sorted.{union_of, intersection_of}
-use Rattle.set_tools.specs.declared.combine.Combination.{Combination}
-use Rattle.set_tools.specs.declared.combine.Combination.TheVariants.{Union, Intersection}
+use Rattle.set_tools.specs.declared.cubunion.Combination.{Combination}
+use Rattle.set_tools.specs.declared.cubunion.Combination.TheVariants.{Union, Intersection}
 
 -- the cell is a member of one of the sets, or of both
 abbrev pub is_combined : Combination → Members → Members → List Factor → Bool

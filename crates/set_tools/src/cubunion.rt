@@ -36,7 +36,7 @@ pub struct CombinationJob {
 
 /// The union or the intersection of the sets of the files, or the first refusal.
 #[tactic(auto, unfolding(crate::specs::Jobs::combination_job))]
-pub fn combination<F: Files>(
+pub fn combine<F: Files>(
     alloc: Global,
     files: &mut F,
     job: &CombinationJob,
@@ -52,7 +52,7 @@ fn compute(alloc: Global, combination: Combination, sets: &TwoSets) -> Result<An
     requires { AreOperands sets.now }
     ensures { Computes (RefusesCombination combination) (IsCombinationText combination) sets.now result }
 {
-    let set = combined(alloc, combination, &sets.x, &sets.y)?;
+    let set = combine_sets(alloc, combination, &sets.x, &sets.y)?;
     if set.len() > CUBES {
         return Err(too_many());
     }
@@ -60,7 +60,7 @@ fn compute(alloc: Global, combination: Combination, sets: &TwoSets) -> Result<An
 }
 
 // The union or the intersection of two sets.
-fn combined(
+fn combine_sets(
     alloc: Global,
     combination: Combination,
     x: &CubeSet,
