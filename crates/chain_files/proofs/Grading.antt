@@ -14,7 +14,7 @@ use Rattle.chain_files.specs.Making.{IsGraded}
 use Rattle.chain_files.specs.declared.block.Block.{Block}
 use Rattle.chain_files.specs.declared.fault.ChainCause.{ChainCause}
 use Rattle.chain_files.specs.declared.fault.ChainCause.TheVariants.{BadNumber, UnknownGenerator, RepeatedGenerator, TooManyGenerators}
-use Rattle.chain_files.specs.declared.fault.TheConstants.{GENERATORS, MAX_DEGREE}
+use Rattle.chain_files.specs.Numbers.{most_generators, greatest_degree}
 use Rattle.chain_files.proofs.Deciding.{le_told, on_test, and_both}
 use Rattle.chain_files.proofs.Files.{terms_at}
 
@@ -208,11 +208,11 @@ graded_joined p s c t now h j = graded_term (with_count s) true (graded_counted 
 
 with_degree_as : (s now : Known) (k : ℕ) (z : ℤ) → with_degree s k z ≡ Ok now → (n : ℕ) × (with_generators s k n ≡ now)
 with_degree_as s now k (pos n) e =
-    (n, (accepted (nat_le (s.here.first + s.here.count + n) GENERATORS) (with_generators s k n) now TooManyGenerators e).1)
+    (n, (accepted (nat_le (s.here.first + s.here.count + n) most_generators) (with_generators s k n) now TooManyGenerators e).1)
 with_degree_as s now k (negsuc n) e = absurd (refused BadNumber now e)
 
 with_top_as : (s now : Known) (z : ℤ) → with_top s z ≡ Ok now → (n : ℕ) × (record s { content = record s.content { top = n } } ≡ now)
-with_top_as s now (pos n) e = (n, (accepted (nat_le n MAX_DEGREE) (record s { content = record s.content { top = n } }) now BadNumber e).1)
+with_top_as s now (pos n) e = (n, (accepted (nat_le n greatest_degree) (record s { content = record s.content { top = n } }) now BadNumber e).1)
 with_top_as s now (negsuc n) e = absurd (refused BadNumber now e)
 
 graded_items : (p : ℕ) (items : List Item) (s all : Known) (b : Bool) → Graded s b → Gathers p s b items all → (c : Bool) × Graded all c

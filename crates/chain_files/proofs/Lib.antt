@@ -1,6 +1,7 @@
 pub mod Deciding
 pub mod Refusing
 pub mod Following
+pub mod Fronts
 pub mod Values
 pub mod Spelled
 pub mod Outcomes

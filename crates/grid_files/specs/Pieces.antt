@@ -4,7 +4,7 @@ use Rattle.std.specs.Cmp.Lexicographic.{pointwise}
 use Rattle.std.specs.Char.{is_ascii_alphabetic}
 use Rattle.outside.specs.Tokens.{Lexeme, number, wide, arrow, word, mark, other, is_blank, letters_of, line_of, lexeme_at, size_behind, tokens_behind}
 use Rattle.grid_files.specs.declared.piece.Piece.{Piece}
-use Rattle.grid_files.specs.declared.piece.Piece.TheVariants.{Number, Wide, Mark, Strange, SkippedLine, DimensionWord, DimensionNumber, NoNumber, Stray}
+use Rattle.grid_files.specs.declared.piece.Piece.TheVariants.{Number, Wide, Mark, Arrow, Strange, SkippedLine, DimensionWord, DimensionNumber, NoNumber, Stray}
 use Rattle.grid_files.specs.declared.piece.TheConstants.{DIMENSION}
 
 -- A token as a piece.
@@ -12,7 +12,7 @@ abbrev pub piece_of : Lexeme → Piece
 piece_of (number z) = Number z
 piece_of wide = Wide
 piece_of (mark b) = Mark b
-piece_of arrow = Strange
+piece_of arrow = Arrow
 piece_of (word w) = Strange
 piece_of (other b) = Strange
 

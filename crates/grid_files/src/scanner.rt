@@ -10,7 +10,7 @@ use crate::piece::{DIMENSION, Piece};
 
 /// What a scanner carries from byte to byte: the token that it stands in.
 #[derive(Clone, Copy)]
-pub(crate) enum Carry {
+pub enum Carry {
     /// Between two tokens.
     Between,
     /// In a comment, or in a line that is skipped.
@@ -32,7 +32,7 @@ pub(crate) enum Carry {
 }
 
 /// A piece with the place of its first byte.
-pub(crate) type Placed = (u64, Piece);
+pub type Placed = (u64, Piece);
 
 // A value that counts as being outside 64 bits, whatever digits follow.
 const CAP: u64 = (1 << 63) + 1;
@@ -212,10 +212,10 @@ fn after_number(place: u64, b: u8) -> (Carry, Option<Placed>)
 
 /// What one byte tells: at most two pieces, and the new carry.
 #[derive(Clone, Copy)]
-pub(crate) struct Scanned {
-    pub(crate) carry: Carry,
-    pub(crate) first: Option<Placed>,
-    pub(crate) second: Option<Placed>,
+pub struct Scanned {
+    pub carry: Carry,
+    pub first: Option<Placed>,
+    pub second: Option<Placed>,
 }
 
 // A piece, and then what the next token begins with.
@@ -244,7 +244,7 @@ fn after_dash(at: u64, place: u64, b: u8) -> Scanned
         });
     }
     if b == b'>' {
-        return then((at, Piece::Strange), (Carry::Between, None));
+        return then((at, Piece::Arrow), (Carry::Between, None));
     }
     then((at, Piece::Strange), begin(place, b))
 }
@@ -348,7 +348,7 @@ fn telling(next: (Carry, Option<Placed>)) -> Scanned
 }
 
 /// One more byte of a text, which stands at this place.
-pub(crate) fn scan(carry: Carry, place: u64, b: u8) -> Scanned
+pub fn scan(carry: Carry, place: u64, b: u8) -> Scanned
     requires { IsCarry carry }
     ensures pieces { Scans carry place b result.carry result.first result.second }
     ensures carry { IsCarry result.carry }

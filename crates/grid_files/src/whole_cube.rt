@@ -12,7 +12,7 @@ use crate::fault::TextCause;
 use elem_cubes::{Cell, Corner, MAX_EMBEDDING};
 
 /// The full cube with this lower corner.
-pub(crate) fn full_cube(corner: &OpenCorner) -> Result<Cell, TextCause>
+pub fn full_cube(corner: &OpenCorner) -> Result<Cell, TextCause>
     ensures ok { IfOk result (λ cell. IsTrue (list_all is_file_factor cell)) }
     ensures cell { (xs : List ℤ) → IsCorner corner.now xs → fits_corner is_full_end xs ≡ true → IsCellOf (length xs) (Some (full_cell xs)) result }
 {
