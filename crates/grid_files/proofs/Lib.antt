@@ -1,6 +1,7 @@
 pub mod Reading
 pub mod Deciding
 pub mod Outcomes
+pub mod Refusals
 pub mod Scanning
 pub mod Corners
 pub mod Openings

@@ -6,6 +6,7 @@ pub use Rattle.cube_sets.specs.Neighbours
 pub mod Pieces
 pub mod Items
 pub mod SetFile
+pub mod Refusals
 pub mod Laws
 pub mod Scanning
 pub mod Reading

@@ -1,4 +1,5 @@
 //! Laws of set files: each is the contract of a function that does nothing.
+ghost use Rattle.grid_files.specs.Refusals.{RefusalsAreFirst};
 ghost use Rattle.grid_files.specs.Laws.{KeywordIsOfTheFormat, TextsHaveOneOutcome, WrittenSetsAreRead};
 
 /// The keyword of the program is the word that the grammar states; its numbers are those of
@@ -16,4 +17,11 @@ pub fn texts_have_one_outcome()
 #[tactic(auto, using(crate::proofs::Rereading::written_sets_are_read))]
 pub fn written_sets_are_read()
     ensures { WrittenSetsAreRead }
+{}
+
+/// Where a text is refused, the pieces before the item there have a value, those that stand open
+/// begin an item, and with the piece or the item that is refused nothing goes on to a value.
+#[tactic(auto, using(crate::proofs::Refusals::refusals_are_first))]
+pub fn refusals_are_first()
+    ensures { RefusalsAreFirst }
 {}

@@ -19,7 +19,9 @@ mod write;
 pub use corner::{CornerStep, OpenCorner, in_corner};
 pub use cube_sets::{CUBES, CubeSet, SetFault, are_members};
 pub use fault::{Kind, TextCause, TextFault};
-pub use laws::{keyword_is_of_the_format, texts_have_one_outcome, written_sets_are_read};
+pub use laws::{
+    keyword_is_of_the_format, refusals_are_first, texts_have_one_outcome, written_sets_are_read,
+};
 pub use piece::Piece;
 pub use scanner::{Carry, Placed, Scanned, scan};
 pub use set_file::read_set;
