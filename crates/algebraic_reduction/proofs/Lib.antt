@@ -19,3 +19,7 @@ pub mod Going
 pub mod Dimension
 pub mod NumbersKept
 pub mod Spreading
+pub mod LinearMaps
+pub mod Singles
+pub mod Restrictions
+pub mod Parts

@@ -3,5 +3,6 @@ pub mod Laws
 pub mod LogWords
 pub mod Maps
 pub mod Reduction
+pub mod Restrictions
 pub mod Sides
 pub mod State

@@ -1,5 +1,6 @@
 //! Laws over the definitions alone, each the contract of a function that does nothing.
 ghost use Rattle.algebraic_reduction.specs.Laws.{StepsAreReductions, LeftGeneratorsAreBasis, LeftGeneratorsAreDimension};
+ghost use Rattle.algebraic_reduction.specs.Restrictions.{FreeStepsLeaveRestrictions, StepsWithinLeaveRestrictions, AcyclicPartsAreTaken};
 
 /// A list of steps on a complex reduces it.
 #[tactic(auto, using(crate::proofs::Reductions::steps_are_reductions))]
@@ -17,4 +18,22 @@ pub fn left_generators_are_basis()
 #[tactic(auto, using(crate::proofs::Dimension::left_dimension))]
 pub fn left_generators_are_dimension()
     ensures { LeftGeneratorsAreDimension }
+{}
+
+/// One more step by a free pair leaves restrictions.
+#[tactic(auto, using(crate::proofs::Restrictions::free_steps))]
+pub fn free_steps_leave_restrictions()
+    ensures { FreeStepsLeaveRestrictions }
+{}
+
+/// Steps within a closed part, all of which they take, leave restrictions.
+#[tactic(auto, using(crate::proofs::Restrictions::steps_within))]
+pub fn steps_within_leave_restrictions()
+    ensures { StepsWithinLeaveRestrictions }
+{}
+
+/// An acyclic part that is reduced in itself is gone.
+#[tactic(auto, using(crate::proofs::Parts::acyclic_parts))]
+pub fn acyclic_parts_are_taken()
+    ensures { AcyclicPartsAreTaken }
 {}

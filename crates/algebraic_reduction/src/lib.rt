@@ -20,5 +20,8 @@ mod stepping;
 #[cfg(test)]
 mod tests;
 
-pub use laws::{left_generators_are_basis, left_generators_are_dimension, steps_are_reductions};
+pub use laws::{
+    acyclic_parts_are_taken, free_steps_leave_restrictions, left_generators_are_basis,
+    left_generators_are_dimension, steps_are_reductions, steps_within_leave_restrictions,
+};
 pub use log::Log;

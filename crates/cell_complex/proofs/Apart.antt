@@ -7,9 +7,9 @@ use Rattle.std.specs.Ordering.{is_eq}
 use Rattle.std.specs.declared.cmp.Ordering.{Ordering}
 use Rattle.std.specs.declared.cmp.Ordering.TheVariants.{Less, Equal, Greater}
 use Rattle.std.proofs.lemmas.List.{drop_more, drop_all}
-use Rattle.grid_files.specs.Sorted.{has}
-use Rattle.grid_files.proofs.Merging.{IsBelow, above, below_further, below_same, same'}
-use Rattle.grid_files.proofs.Steps.{sorted-drop, absent}
+use Rattle.cube_sets.specs.Sorted.{has}
+use Rattle.cube_sets.proofs.Merging.{IsBelow, above, below_further, below_same, same'}
+use Rattle.cube_sets.proofs.Steps.{sorted-drop, absent}
 
 -- the values of the first list that the second has not
 abbrev pub apart_of : {K : Type 0} → (K → K → Ordering) → List K → List K → List K

@@ -16,11 +16,11 @@ use Rattle.elem_cubes.specs.Order.{cell_cmp}
 use Rattle.elem_cubes.specs.OrderLemmas.{cell_cmp_total, cell_cmp_ties, same_cell_equivalence}
 use Rattle.elem_cubes.specs.Laws.{cell_at}
 use Rattle.elem_cubes.proofs.Conjunctions.{all_at}
-use Rattle.grid_files.specs.Sorted.{has}
-use Rattle.grid_files.specs.Sets.{Members, IsCubeSet, is_member}
-use Rattle.grid_files.specs.Closures.{cells_of, is_cell_of}
-use Rattle.grid_files.proofs.Merging.{has-union}
-use Rattle.grid_files.proofs.Covering.{cells_are_faces}
+use Rattle.cube_sets.specs.Sorted.{has}
+use Rattle.cube_sets.specs.Sets.{Members, IsCubeSet, is_member}
+use Rattle.cube_sets.specs.Closures.{cells_of, is_cell_of}
+use Rattle.cube_sets.proofs.Merging.{has-union}
+use Rattle.cube_sets.proofs.Covering.{cells_are_faces}
 use Rattle.cell_complex.specs.RelativeComplex.{is_relative}
 use Rattle.cell_complex.specs.Sorted.{IsSortedCells, without}
 use Rattle.cell_complex.specs.Numbering.{IsListing}

@@ -10,8 +10,8 @@ use Rattle.elem_cubes.specs.Faces.{IsFace, is_face}
 use Rattle.elem_cubes.specs.Order.{cell_cmp}
 use Rattle.elem_cubes.specs.OrderLemmas.{same_cell-Decides, same_cell_equivalence, cell_cmp_ties, cell_refl, cell_cases}
 use Rattle.elem_cubes.proofs.FaceLemmas.{face-Decides, face_refl, face_trans}
-use Rattle.grid_files.specs.Sorted.{has}
-use Rattle.grid_files.specs.Closures.{is_cell_of}
+use Rattle.cube_sets.specs.Sorted.{has}
+use Rattle.cube_sets.specs.Closures.{is_cell_of}
 use Rattle.cell_complex.specs.RelativeComplex.{is_relative, IsClosed, IsClosedList}
 use Rattle.cell_complex.specs.Laws.{CellsOfSetsAreClosed}
 

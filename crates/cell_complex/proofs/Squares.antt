@@ -11,7 +11,7 @@ use Rattle.elem_cubes.specs.Cells.{Factor, dimension_of}
 use Rattle.elem_cubes.specs.Faces.{IsFace, IsFacet}
 use Rattle.elem_cubes.specs.Boundary.{boundary_at}
 use Rattle.chains.specs.Homology.{IsBoundaryOperator, combination}
-use Rattle.grid_files.specs.Closures.{is_cell_of}
+use Rattle.cube_sets.specs.Closures.{is_cell_of}
 use Rattle.cell_complex.specs.RelativeComplex.{is_relative, restriction_to, complex_on, IsClosed, SquaresToZero}
 use Rattle.cell_complex.specs.Laws.{DifferencesAreComplexes, RelativeComplexesAreComplexes}
 use Rattle.cell_complex.proofs.Deciding.{closed}

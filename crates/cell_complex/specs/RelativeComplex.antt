@@ -8,7 +8,7 @@ use Rattle.elem_cubes.specs.Cells.{Factor, dimension_of}
 use Rattle.elem_cubes.specs.Faces.{IsFace}
 use Rattle.elem_cubes.specs.Boundary.{boundary_at}
 use Rattle.chains.specs.Homology.{System}
-use Rattle.grid_files.specs.Closures.{is_cell_of}
+use Rattle.cube_sets.specs.Closures.{is_cell_of}
 
 -- q is a relative cell of the pair of x and a: a cell of x that is no cell of a
 abbrev pub is_relative : List (List Factor) → List (List Factor) → List Factor → Bool

@@ -5,7 +5,7 @@ use Rattle.std.specs.List.Sorted.{IsStrictlySortedBy}
 use Rattle.elem_cubes.specs.Cells.{Factor, is_file_factor}
 use Rattle.elem_cubes.specs.Order.{cell_cmp}
 use Rattle.elem_cubes.specs.Laws.{cell_at}
-use Rattle.grid_files.specs.Sorted.{has}
+use Rattle.cube_sets.specs.Sorted.{has}
 
 -- the cells stand in order, each once, with as many factors as each other and within the range of the files, and there are
 -- fewer than 2^32 of them

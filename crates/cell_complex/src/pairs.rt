@@ -2,7 +2,7 @@
 ghost use Rattle.std.specs.Prelude.{◌≡◌, ◌<◌, ◌≤◌, ◌^◌, ◌++◌, length, IfOk, OnOk, Err};
 ghost use Rattle.std.specs.List.Sorted.{IsStrictlySortedBy};
 ghost use Rattle.elem_cubes.specs.Order.{cell_cmp};
-ghost use Rattle.grid_files.specs.Closures.{cells_of};
+ghost use Rattle.cube_sets.specs.Closures.{cells_of};
 ghost use Rattle.cell_complex.specs.RelativeComplex.{is_relative};
 ghost use Rattle.cell_complex.specs.Numbering.{IsListing, IsOfPair};
 ghost use Rattle.cell_complex.specs.CellCount.{cell_count};
@@ -10,8 +10,8 @@ ghost use Rattle.cell_complex.specs.Sorted.{without};
 
 use crate::fault::CellsFault;
 use crate::numbered::Numbered;
+use cube_sets::{CubeSet, SetFault};
 use elem_cubes::Cell;
-use grid_files::{CubeSet, SetFault};
 use std::alloc::{AllocError, Global};
 use std::cmp::Ordering;
 
@@ -29,7 +29,9 @@ pub fn relative(alloc: Global, x: &CubeSet, a: &CubeSet) -> Result<Numbered, Cel
     relative_within(alloc, x, a, CELLS)
 }
 
-pub(crate) fn relative_within(
+/// The relative cells of a pair, where both sets together have no more than so many cells. `TooManyCells` comes exactly
+/// where they have more.
+pub fn relative_within(
     alloc: Global,
     x: &CubeSet,
     a: &CubeSet,

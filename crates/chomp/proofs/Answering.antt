@@ -18,8 +18,8 @@ use Rattle.chomp.specs.Inputs.{Input, of_pair, of_two_sets, of_full_cubes, of_se
 use Rattle.chomp.specs.Statuses.{status_of}
 use Rattle.std.specs.Option.{option_and_then}
 use Rattle.elem_cubes.specs.Cells.{Factor}
-use Rattle.grid_files.specs.Closures.{cells_of}
-use Rattle.grid_files.specs.Neighbours.{neighbours_of, are_in_range}
+use Rattle.cube_sets.specs.Closures.{cells_of}
+use Rattle.cube_sets.specs.Neighbours.{neighbours_of, are_in_range}
 use Rattle.cell_complex.specs.CellCount.{cell_count}
 use Rattle.chomp.specs.declared.tool.Tool.{Tool}
 use Rattle.chomp.specs.Combining.{combined_of}

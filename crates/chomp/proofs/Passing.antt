@@ -2,7 +2,7 @@
 use Rattle.std.proofs.Common.{◌≡◌, ℕ, zero, suc, ◌+◌, ◌≤◌, Bool, true, false, List, [], ◌∷◌, Option, None, Some, Result, Ok, Err, IfErr, IfSome, Contains, refl, sym, ap, ◌∙◌, subst, arith, ◌⊎◌, inl, inr, ⊎_elim, bytes_eq, cond, unwrap_or}
 use Rattle.outside.specs.Causes.{Rose, more, NoneFell}
 use Rattle.outside.specs.Disk.{Disk}
-use Rattle.grid_files.specs.Sets.{Members, dimensions_agree}
+use Rattle.cube_sets.specs.Sets.{Members, dimensions_agree}
 use Rattle.grid_files.specs.declared.fault.Kind.{Kind}
 use Rattle.grid_files.specs.declared.fault.Kind.TheVariants.{Any}
 use Rattle.report.specs.declared.cause.Cause.{Cause}

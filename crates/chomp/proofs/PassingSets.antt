@@ -1,7 +1,7 @@
 -- What a fault of one file rests on, for the loading of the files of a tool on sets.
 use Rattle.std.proofs.Common.{◌≡◌, ℕ, Bool, true, false, List, [], ◌∷◌, Option, None, Some, Result, Ok, Err, IfSome, Contains, refl, sym, ap, ◌∙◌, subst, arith, ◌⊎◌, inl, inr, ⊎_elim, cond}
 use Rattle.outside.specs.Disk.{Disk}
-use Rattle.grid_files.specs.Sets.{Members, dimensions_agree}
+use Rattle.cube_sets.specs.Sets.{Members, dimensions_agree}
 use Rattle.grid_files.specs.declared.fault.Kind.TheVariants.{Any}
 use Rattle.report.specs.declared.fault.Fault.{Fault}
 use Rattle.report.specs.declared.fault.Fault.TheVariants.{CannotRead, Dimension, OutOfMemory}

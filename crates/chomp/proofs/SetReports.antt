@@ -1,10 +1,10 @@
 -- Sets that are made are those of a right report.
 use Rattle.std.proofs.Common.{◌≡◌, refl, sym, subst}
-use Rattle.grid_files.specs.Sets.{Members}
-use Rattle.grid_files.specs.Closures.{closure, is_cell_of}
-use Rattle.grid_files.specs.Neighbours.{neighbourhood, is_neighbour}
-use Rattle.grid_files.proofs.Covering.{cells_are_faces}
-use Rattle.grid_files.proofs.Neighbouring.{neighbours_meet}
+use Rattle.cube_sets.specs.Sets.{Members}
+use Rattle.cube_sets.specs.Closures.{closure, is_cell_of}
+use Rattle.cube_sets.specs.Neighbours.{neighbourhood, is_neighbour}
+use Rattle.cube_sets.proofs.Covering.{cells_are_faces}
+use Rattle.cube_sets.proofs.Neighbouring.{neighbours_meet}
 use Rattle.chomp.specs.Right.{IsSetWith}
 
 pub is_closure : (x set : Members) → set ≡ closure x → IsSetWith x.dimension (is_cell_of x.cells) set

@@ -2,9 +2,9 @@
 use Rattle.std.specs.Prelude.{◌≤◌, List, length, Bool, ◌&&◌, ◌||◌, IsTrue}
 use Rattle.elem_cubes.specs.Cells.{Factor}
 use Rattle.elem_cubes.specs.Order.{cell_cmp}
-use Rattle.grid_files.specs.Sets.{Members, holds, dimensions_agree}
-use Rattle.grid_files.specs.Sorted.{union_of, intersection_of}
-use Rattle.grid_files.specs.declared.fault.TheConstants.{CUBES}
+use Rattle.cube_sets.specs.Sets.{Members, holds, dimensions_agree}
+use Rattle.cube_sets.specs.Sorted.{union_of, intersection_of}
+use Rattle.cube_sets.specs.declared.fault.TheConstants.{CUBES}
 use Rattle.chomp.specs.declared.combine.Combination.{Combination}
 use Rattle.chomp.specs.declared.combine.Combination.TheVariants.{Union, Intersection}
 

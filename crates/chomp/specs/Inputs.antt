@@ -1,6 +1,6 @@
 -- What the files give that the words name.
 use Rattle.std.specs.Prelude.{ℕ}
-use Rattle.grid_files.specs.Sets.{Members}
+use Rattle.cube_sets.specs.Sets.{Members}
 use Rattle.chain_files.specs.Content.{Content}
 use Rattle.chomp.specs.declared.homcubes.Given.{Given}
 use Rattle.chomp.specs.Combining.{Operands}

@@ -4,14 +4,14 @@
 use Rattle.std.specs.Prelude.{◌≡◌, ◌⊎◌, ℕ, List, ◌++◌, Option, None, Some, Result, Ok, Err, nat_lt, if◌then◌else◌, length, unwrap_or}
 use Rattle.std.specs.Str.{bytes_eq}
 use Rattle.outside.specs.Disk.{Disk, content}
-use Rattle.grid_files.specs.Sets.{Members, dimensions_agree}
+use Rattle.cube_sets.specs.Sets.{Members, dimensions_agree}
 use Rattle.grid_files.specs.SetFile.{HasValue, IsRefusedAt, no_members}
 use Rattle.grid_files.specs.declared.fault.Kind.{Kind}
 use Rattle.grid_files.specs.declared.fault.TextCause.{TextCause}
 use Rattle.grid_files.specs.declared.fault.TextCause.TheVariants as texts
 use Rattle.elem_cubes.specs.Cells.{Factor}
-use Rattle.grid_files.specs.Closures.{cells_of}
-use Rattle.grid_files.specs.Neighbours.{neighbours_of, are_in_range}
+use Rattle.cube_sets.specs.Closures.{cells_of}
+use Rattle.cube_sets.specs.Neighbours.{neighbours_of, are_in_range}
 use Rattle.cell_complex.specs.CellCount.{cell_count}
 use Rattle.chain_files.specs.Content.{Content}
 use Rattle.chain_files.specs.ChainFile as chains

@@ -13,9 +13,9 @@ use Rattle.chain_files.specs.Content.{Content}
 use Rattle.chain_files.specs.Complexes.{count_in, listed, chain_in_degree}
 use Rattle.cell_complex.specs.RelativeComplex.{relative_complex}
 use Rattle.cell_complex.specs.Numbering.{cell_coefficient}
-use Rattle.grid_files.specs.Sets.{Members, holds}
-use Rattle.grid_files.specs.Closures.{is_cell_of}
-use Rattle.grid_files.specs.Neighbours.{is_neighbour}
+use Rattle.cube_sets.specs.Sets.{Members, holds}
+use Rattle.cube_sets.specs.Closures.{is_cell_of}
+use Rattle.cube_sets.specs.Neighbours.{is_neighbour}
 use Rattle.report.specs.declared.reports.Report.{Report}
 use Rattle.report.specs.declared.reports.Report.TheVariants.{Pair, Chain, Set}
 use Rattle.chomp.specs.Combining.{Operands, is_combined}

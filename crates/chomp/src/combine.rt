@@ -1,7 +1,7 @@
 //! The tools `cubunion` and `cubinter`: the union and the intersection of two sets.
 ghost use Rattle.std.specs.Prelude.{◌≡◌, ◌≤◌, ◌+◌, ◌*◌, ◌∷◌, ◌⊎◌, ◌<◌, ◌^◌, [], length, List, IsTrue, IfOk, IfErr, IfSome, OnOk, Ok, Err};
 ghost use Rattle.elem_cubes.specs.Cells.{Factor};
-ghost use Rattle.grid_files.specs.Sets.{holds, dimensions_agree};
+ghost use Rattle.cube_sets.specs.Sets.{holds, dimensions_agree};
 ghost use Rattle.report.specs.ReportText.{HasText};
 ghost use Rattle.chomp.specs.Words.{formed, two_files};
 ghost use Rattle.chomp.specs.Inputs.{of_two_sets};

@@ -26,8 +26,8 @@ pub struct FullCubes {
 
 impl Model for FullCubes {
     ghost use Rattle.std.specs.Prelude.{IsTrue};
-    ghost use Rattle.grid_files.specs.Sets.{Members};
-    ghost use Rattle.grid_files.specs.Neighbours.{are_full};
+    ghost use Rattle.cube_sets.specs.Sets.{Members};
+    ghost use Rattle.cube_sets.specs.Neighbours.{are_full};
 
     ghost Value = { Members };
 

@@ -1,9 +1,9 @@
 //! Files as values, or the first refusal.
 ghost use Rattle.std.specs.Prelude.{◌≡◌, ◌≤◌, ◌+◌, ◌*◌, ◌^◌, ◌⊎◌, ◌∷◌, [], length, None, Some, IsTrue, IfOk, IfErr, IfSome, OnOk, Ok, Err};
 ghost use Rattle.outside.specs.Causes.{NoneFell, more};
-ghost use Rattle.grid_files.specs.Sets.{dimensions_agree};
+ghost use Rattle.cube_sets.specs.Sets.{dimensions_agree};
 ghost use Rattle.grid_files.specs.SetFile.{no_members};
-ghost use Rattle.grid_files.specs.Neighbours.{are_full};
+ghost use Rattle.cube_sets.specs.Neighbours.{are_full};
 ghost use Rattle.chomp.specs.Words.{and_subset};
 ghost use Rattle.chomp.specs.Refusal.{Is, IsSetOf, IsSetIn, IsSubsetIn, told_cause, text_fault, reading, file_bytes};
 ghost use Rattle.chomp.specs.Saying.{LoadRestsOn, IsDue};

@@ -3,7 +3,7 @@ use Rattle.std.proofs.Common.{◌≡◌, ℕ, ℤ, List, [], ◌∷◌, ◌++◌
 use Rattle.std.specs.List.{list_all}
 use Rattle.std.proofs.lemmas.List.{append-nil}
 use Rattle.elem_cubes.specs.Corners.{is_file_end}
-use Rattle.grid_files.specs.Sets.{Members}
+use Rattle.cube_sets.specs.Sets.{Members}
 use Rattle.grid_files.specs.Items.{Item, full, elementary, dimension_line, skipped_line, Open, nothing, in_full, before_lower, in_lower, before_upper, in_upper, before_end, behind_word, opened, closed, fits_corner, is_empty, is_full_end, beginning, fits_open, cause_of, with_item}
 use Rattle.grid_files.specs.SetFile.{said, first_place, IsItem, Splits, Gathers, fault_place, StopsAt, Refuses}
 use Rattle.grid_files.specs.declared.fault.Kind.{Kind}

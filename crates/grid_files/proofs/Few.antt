@@ -6,16 +6,16 @@ use Rattle.std.proofs.lemmas.Bool.Decides.{nat_tests}
 use Rattle.elem_cubes.specs.declared.range.TheConstants.{MAX_EMBEDDING}
 use Rattle.elem_cubes.specs.Cells.{Factor, is_wide, full_cell}
 use Rattle.elem_cubes.specs.Order.{cell_cmp}
-use Rattle.grid_files.specs.Sorted.{inserted}
-use Rattle.grid_files.specs.Sets.{Members, dimensions_agree}
+use Rattle.cube_sets.specs.Sorted.{inserted}
+use Rattle.cube_sets.specs.Sets.{Members, dimensions_agree}
 use Rattle.grid_files.specs.Items.{Item, full, elementary, dimension_line, skipped_line, is_wanted, cell_between, cell_cause, cube_cause, cause_of, with_cell, with_item}
 use Rattle.grid_files.specs.SetFile.{Gathers, HasValue, no_members}
 use Rattle.grid_files.specs.declared.fault.Kind.{Kind}
 use Rattle.grid_files.specs.declared.fault.Kind.TheVariants.{Full}
 use Rattle.grid_files.specs.declared.fault.TextCause.TheVariants.{DimensionTooLarge, MixedDimension, NotFull, TooMany}
 use Rattle.grid_files.specs.declared.fault.TextFault.{TextFault}
-use Rattle.grid_files.specs.declared.fault.TheConstants.{CUBES}
-use Rattle.grid_files.proofs.SetLemmas.{all-inserted}
+use Rattle.cube_sets.specs.declared.fault.TheConstants.{CUBES}
+use Rattle.cube_sets.proofs.SetLemmas.{all-inserted}
 
 otherwise : {A : Type 0} (b : Bool) (c : A) (o : Option A) → (if b then Some c else o) ≡ None → o ≡ None
 otherwise true c o e = cc

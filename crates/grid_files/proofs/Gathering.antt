@@ -13,8 +13,8 @@ use Rattle.elem_cubes.specs.declared.range.TheConstants.{MAX_EMBEDDING}
 use Rattle.elem_cubes.specs.Cells.{Factor, same_cell, is_file_factor}
 use Rattle.elem_cubes.specs.Order.{cell_cmp}
 use Rattle.elem_cubes.specs.OrderLemmas.{cell_cmp_total, cell_cmp_ties}
-use Rattle.grid_files.specs.Sorted.{has, inserted}
-use Rattle.grid_files.specs.Sets.{Members, IsCubeSet, is_member, dimensions_agree}
+use Rattle.cube_sets.specs.Sorted.{has, inserted}
+use Rattle.cube_sets.specs.Sets.{Members, IsCubeSet, is_member, dimensions_agree}
 use Rattle.grid_files.specs.Items.{cell_cause, with_cell, is_wanted}
 use Rattle.grid_files.specs.Items.{Item, full, elementary, dimension_line, skipped_line, fits, fits_corner, is_full_end}
 use Rattle.elem_cubes.specs.Corners.{is_file_end}
@@ -26,12 +26,12 @@ use Rattle.grid_files.specs.declared.opening.Closing.TheVariants as closings
 use Rattle.grid_files.specs.Readers.{IsGathered}
 use Rattle.grid_files.specs.declared.fault.Kind.{Kind}
 use Rattle.grid_files.specs.declared.fault.TextCause.TheVariants.{TooMany}
-use Rattle.grid_files.specs.declared.fault.TheConstants.{CUBES}
+use Rattle.cube_sets.specs.declared.fault.TheConstants.{CUBES}
 use Rattle.grid_files.specs.declared.gathered.Gathered.{Gathered}
-use Rattle.grid_files.proofs.Merging.{by_cases, has-inserted, sorted-inserted, above, same', below_further}
-use Rattle.grid_files.proofs.Sorting.{equal_from, and_true}
-use Rattle.grid_files.proofs.Steps.{absent}
-use Rattle.grid_files.proofs.SetLemmas.{has_alike, all-inserted}
+use Rattle.cube_sets.proofs.Merging.{by_cases, has-inserted, sorted-inserted, above, same', below_further}
+use Rattle.cube_sets.proofs.Sorting.{equal_from, and_true}
+use Rattle.cube_sets.proofs.Steps.{absent}
+use Rattle.cube_sets.proofs.SetLemmas.{has_alike, all-inserted}
 
 pub on_ok : {A E : Type 0} (r : Result A E) (P : Type 0) → OnOk r P → is_err r ≡ false → P
 on_ok (Ok x) P h e = h

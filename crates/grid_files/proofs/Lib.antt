@@ -1,11 +1,7 @@
-pub mod Merging
-pub mod Sorting
-pub mod Steps
 pub mod Reading
 pub mod Deciding
 pub mod Outcomes
 pub mod Scanning
-pub mod SetLemmas
 pub mod Corners
 pub mod Openings
 pub mod WholeCubes
@@ -13,12 +9,6 @@ pub mod Gathering
 pub mod Readings
 pub mod Finishing
 pub mod SetFiles
-pub mod Writing
 pub mod Few
-pub mod Spreading
-pub mod Spreads
-pub mod Covering
-pub mod Near
-pub mod Neighbouring
 pub mod Telling
 pub mod Rereading

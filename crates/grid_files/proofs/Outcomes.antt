@@ -1,6 +1,6 @@
 -- The outcome of a text: a value or a refusal, and one of them alone.
 use Rattle.std.proofs.Common.{◌≡◌, ◌⊎◌, inl, inr, ℕ, List, Ok, Err, ap}
-use Rattle.grid_files.specs.Sets.{Members}
+use Rattle.cube_sets.specs.Sets.{Members}
 use Rattle.grid_files.specs.Items.{nothing}
 use Rattle.grid_files.specs.Pieces.{pieces}
 use Rattle.grid_files.specs.SetFile.{HasValue, IsRefusedAt, no_members}

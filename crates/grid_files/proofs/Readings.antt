@@ -1,6 +1,6 @@
 -- A piece leads the reading on, or is refused, as the reading function says.
 use Rattle.std.proofs.Common.{◌≡◌, ℕ, ◌+◌, List, ◌∷◌, true, Option, None, Some, Result, Ok, Err, refl, sym, ap, ◌∙◌, subst}
-use Rattle.grid_files.specs.Sets.{Members}
+use Rattle.cube_sets.specs.Sets.{Members}
 use Rattle.grid_files.specs.Items.{Item, Open, nothing, fits, fits_open, cause_of, with_item}
 use Rattle.grid_files.specs.Reading.{Step, goes, closes, stops, step, read, judged, start_of, closing_place}
 use Rattle.grid_files.specs.Openings.{IsOpening, IsClosing, StepsAs}

@@ -13,23 +13,24 @@ use Rattle.elem_cubes.specs.Corners.{is_file_end}
 use Rattle.elem_cubes.specs.Cells.{Factor, point, interval, low, high, is_wide, is_file_factor, lower_of, upper_of, full_cell}
 use Rattle.elem_cubes.specs.Order.{cell_cmp}
 use Rattle.elem_cubes.specs.OrderLemmas.{cell_cmp_total, int_refl}
-use Rattle.grid_files.specs.Sorted.{by_order, inserted}
-use Rattle.grid_files.specs.Sets.{Members, IsCubeSet, is_member, dimensions_agree}
+use Rattle.cube_sets.specs.Sorted.{by_order, inserted}
+use Rattle.cube_sets.specs.Sets.{Members, IsCubeSet, is_member, dimensions_agree}
 use Rattle.grid_files.specs.Items.{Item, full, elementary, dimension_line, closed, spelling, is_full_end, fits, factor_between, in_front, cell_between, is_wanted, cell_cause, cube_cause, dimension_cause, cause_of, with_cell, with_item}
 use Rattle.grid_files.specs.Laws.{WrittenSetsAreRead}
 use Rattle.grid_files.specs.Pieces.{pieces_behind, pieces}
 use Rattle.grid_files.specs.SetFile.{Splits, Gathers, HasValue, no_members}
-use Rattle.grid_files.specs.Written.{corner_text, cell_line, written}
+use Rattle.corner_texts.specs.CornerText.{corner_text}
+use Rattle.grid_files.specs.Written.{cell_line, written}
 use Rattle.grid_files.specs.declared.fault.Kind.{Kind}
 use Rattle.grid_files.specs.declared.fault.TextCause.TheVariants.{DimensionTooLarge}
-use Rattle.grid_files.specs.declared.fault.TheConstants.{CUBES}
+use Rattle.cube_sets.specs.declared.fault.TheConstants.{CUBES}
 use Rattle.grid_files.specs.declared.piece.Piece.{Piece}
 use Rattle.grid_files.specs.declared.piece.Piece.TheVariants.{Mark}
 use Rattle.grid_files.specs.declared.piece.TheConstants.{DIMENSION}
-use Rattle.grid_files.proofs.Merging.{IsBelow, above'}
-use Rattle.grid_files.proofs.Sorting.{and_true}
-use Rattle.grid_files.proofs.Finishing.{same_members}
-use Rattle.grid_files.proofs.Covering.{member_parts}
+use Rattle.cube_sets.proofs.Merging.{IsBelow, above'}
+use Rattle.cube_sets.proofs.Sorting.{and_true}
+use Rattle.cube_sets.proofs.SameSets.{same_members}
+use Rattle.cube_sets.proofs.Covering.{member_parts}
 use Rattle.grid_files.proofs.Telling.{Tells, joined, tells_begin, tells_end, tells_line_feed, tells_corner, tells_dimension}
 
 both_true : (a b : Bool) → a ≡ true → b ≡ true → (a && b) ≡ true

@@ -2,7 +2,7 @@
 use Rattle.std.proofs.Common.{◌≡◌, ℕ, ◌+◌, ◌<◌, ◌≤◌, List, [], ◌∷◌, length, drop, get_or, if◌then◌else◌, Result, Ok, Err, sym, ap, ◌∙◌, subst}
 use Rattle.std.specs.Result.{IfOk, IfErr}
 use Rattle.std.proofs.lemmas.List.{drop_more, drop_all}
-use Rattle.grid_files.specs.Sets.{Members}
+use Rattle.cube_sets.specs.Sets.{Members}
 use Rattle.grid_files.specs.Items.{Open, nothing}
 use Rattle.grid_files.specs.Pieces.{pieces}
 use Rattle.grid_files.specs.Reading.{read, Outcome}

@@ -16,9 +16,9 @@ use Rattle.grid_files.specs.declared.piece.TheConstants.{DIMENSION}
 use Rattle.grid_files.specs.Items.{closed}
 use Rattle.grid_files.specs.Pieces.{piece_of, is_dimension, pieces_behind, word_line, numbered, number_line, stray_of}
 use Rattle.grid_files.specs.SetFile.{said}
-use Rattle.grid_files.specs.Written.{spaced, corner_text}
+use Rattle.corner_texts.specs.CornerText.{spaced, corner_text}
 use Rattle.grid_files.proofs.Scanning.{while_more, while_end}
-use Rattle.grid_files.proofs.Sorting.{and_true}
+use Rattle.cube_sets.proofs.Sorting.{and_true}
 
 -- before these bytes the text tells these pieces, and no part of a piece is left
 abbrev pub Tells : List ℕ → List ℕ → List Piece → Type 0

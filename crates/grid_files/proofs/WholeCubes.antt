@@ -9,14 +9,14 @@ use Rattle.std.proofs.lemmas.Bool.Decides.{nat_tests, Decides-int_eq}
 use Rattle.elem_cubes.specs.declared.range.TheConstants.{MAX_EMBEDDING}
 use Rattle.elem_cubes.specs.Corners.{is_end, is_file_end, is_corner}
 use Rattle.elem_cubes.specs.Cells.{Factor, point, interval, is_factor, is_file_factor, is_cell, full_cell, cell_of}
-use Rattle.grid_files.specs.Sets.{Members}
+use Rattle.cube_sets.specs.Sets.{Members}
 use Rattle.grid_files.specs.Items.{fits_corner, is_empty, is_full_end, cube_cause, cell_between, factor_between, in_front}
 use Rattle.grid_files.specs.Corners.{IsCorner, IsCellOf}
 use Rattle.grid_files.specs.declared.fault.Kind.{Kind}
 use Rattle.grid_files.specs.declared.fault.TextCause.{TextCause}
 use Rattle.grid_files.specs.declared.fault.TextCause.TheVariants.{DimensionTooLarge, NotElementary}
 use Rattle.grid_files.specs.declared.corner.OpenCorner.{OpenCorner}
-use Rattle.grid_files.proofs.Sorting.{and_true}
+use Rattle.cube_sets.proofs.Sorting.{and_true}
 
 both : (a b : Bool) → a ≡ true → b ≡ true → (a && b) ≡ true
 both a b h k = rw (h, k) refl

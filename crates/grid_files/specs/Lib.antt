@@ -1,5 +1,8 @@
-pub mod Sorted
-pub mod Sets
+pub use Rattle.corner_texts.specs.CornerText
+pub use Rattle.cube_sets.specs.Sorted
+pub use Rattle.cube_sets.specs.Sets
+pub use Rattle.cube_sets.specs.Closures
+pub use Rattle.cube_sets.specs.Neighbours
 pub mod Pieces
 pub mod Items
 pub mod SetFile
@@ -12,6 +15,3 @@ pub mod Readers
 pub mod Readings
 pub mod Faults
 pub mod Written
-pub mod Changes
-pub mod Closures
-pub mod Neighbours

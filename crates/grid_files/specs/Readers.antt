@@ -2,10 +2,10 @@
 use Rattle.std.specs.Prelude.{◌≡◌, ◌≤◌, List, length, Option, None, Some, Result, Ok, Err}
 use Rattle.elem_cubes.specs.Cells.{Factor}
 use Rattle.elem_cubes.specs.Order.{cell_cmp}
-use Rattle.grid_files.specs.Sorted.{has}
-use Rattle.grid_files.specs.Sets.{Members, IsCubeSet}
+use Rattle.cube_sets.specs.Sorted.{has}
+use Rattle.cube_sets.specs.Sets.{Members, IsCubeSet}
 use Rattle.grid_files.specs.declared.fault.TextCause.{TextCause}
-use Rattle.grid_files.specs.declared.fault.TheConstants.{CUBES}
+use Rattle.cube_sets.specs.declared.fault.TheConstants.{CUBES}
 use Rattle.grid_files.specs.declared.gathered.Gathered.{Gathered}
 use Rattle.grid_files.specs.declared.gathered.Refusal.{Refusal}
 use Rattle.grid_files.specs.declared.gathered.Refusal.TheVariants as refusals

@@ -1,7 +1,7 @@
 -- The reading of a set file as a function of its pieces, by which the parts of the reader are told.
 use Rattle.std.specs.Prelude.{ℕ, ℤ, List, [], ◌∷◌, ◌++◌, Bool, ◌==◌, ◌&&◌, not, if◌then◌else◌, Option, None, Some, Result, Ok, Err}
 use Rattle.elem_cubes.specs.Corners.{is_file_end}
-use Rattle.grid_files.specs.Sets.{Members}
+use Rattle.cube_sets.specs.Sets.{Members}
 use Rattle.grid_files.specs.Items.{Item, full, elementary, dimension_line, skipped_line, Open, nothing, in_full, before_lower, in_lower, before_upper, in_upper, before_end, behind_word, is_empty, is_full_end, cause_of, with_item}
 use Rattle.grid_files.specs.SetFile.{is_open}
 use Rattle.grid_files.specs.declared.fault.Kind.{Kind}
@@ -51,14 +51,7 @@ judged (Some c) f r = f c
 
 -- the first byte of the item that is open behind a piece at a place
 abbrev pub start_of : Open → ℕ → ℕ → ℕ
-start_of nothing start place = place
-start_of (in_full xs) start place = start
-start_of before_lower start place = start
-start_of (in_lower ls) start place = start
-start_of (before_upper ls) start place = start
-start_of (in_upper ls us) start place = start
-start_of (before_end ls us) start place = start
-start_of behind_word start place = start
+start_of o start place = if is_open o then start else place
 
 -- the place of an item's fault, by its first byte and the place of its last piece
 abbrev pub closing_place : Item → ℕ → ℕ → ℕ

@@ -1,6 +1,6 @@
 -- What the calls of a reader of set files do.
 use Rattle.std.specs.Prelude.{◌≡◌, ℕ, ◌+◌, List, ◌∷◌, true, false, Result, Ok, Err}
-use Rattle.grid_files.specs.Sets.{Members}
+use Rattle.cube_sets.specs.Sets.{Members}
 use Rattle.grid_files.specs.Items.{Open, fits_open}
 use Rattle.grid_files.specs.Reading.{read}
 use Rattle.grid_files.specs.SetFile.{is_open}

@@ -1,6 +1,6 @@
 -- Set files: which texts have a value, and which are refused, at which place and with which cause.
 use Rattle.std.specs.Prelude.{◌≡◌, ◌⊎◌, ℕ, List, [], ◌∷◌, ◌++◌, map, Bool, true, false, None, Some}
-use Rattle.grid_files.specs.Sets.{Members}
+use Rattle.cube_sets.specs.Sets.{Members}
 use Rattle.grid_files.specs.Pieces.{pieces}
 use Rattle.grid_files.specs.Items.{Item, dimension_line, Open, nothing, in_full, before_lower, in_lower, before_upper, in_upper, before_end, behind_word, spelling, fits, beginning, fits_open, refused, cause_of, with_item}
 use Rattle.grid_files.specs.declared.fault.Kind.{Kind}

@@ -1,4 +1,5 @@
 //! What may stand in a set file, and why a text is refused.
+use std::alloc::AllocError;
 use thiserror::Error;
 
 /// Which cells a set file may hold: any, or full cubes alone.
@@ -40,18 +41,13 @@ pub enum TextFault {
     NoMemory,
 }
 
-/// Why a set that is made from another is not given.
-#[derive(Clone, Copy, Debug, PartialEq, Eq, Error)]
-pub enum SetFault {
-    /// A cube of it has an end outside the range of the files.
-    #[error("a cube out of range")]
-    Coordinates,
-    /// It has more members than are wanted.
-    #[error("too many cubes")]
-    TooMany,
-    #[error("out of memory")]
-    NoMemory,
-}
+impl From<AllocError> for TextFault {
+    ghost use Rattle.std.specs.Prelude.{◌≡◌};
+    ghost use Rattle.grid_files.specs.declared.fault.TextFault.TheVariants.{NoMemory};
 
-/// The most distinct members of a set file, and of the result of a set tool.
-pub const CUBES: u32 = 1_048_576;
+    ghost from_gives = { λ _ fault. fault ≡ NoMemory };
+
+    fn from(_error: AllocError) -> TextFault {
+        TextFault::NoMemory
+    }
+}

@@ -3,15 +3,16 @@ ghost use Rattle.std.specs.Prelude.{◌≡◌, ◌≤◌, ℕ, ℤ, List, Option
 ghost use Rattle.std.specs.List.{list_all};
 ghost use Rattle.elem_cubes.specs.Cells.{Factor, is_file_factor};
 ghost use Rattle.grid_files.specs.Corners.{IsCellOf};
-ghost use Rattle.grid_files.specs.Sets.{Members};
+ghost use Rattle.cube_sets.specs.Sets.{Members};
 ghost use Rattle.grid_files.specs.Items.{Item, fits, cause_of, with_item, cell_cause, cube_cause, with_cell, dimension_cause, dimension_line, is_wanted};
 ghost use Rattle.grid_files.specs.Openings.{IsClosing};
 ghost use Rattle.grid_files.specs.Readers.{IsGathered, Joins};
 
 use crate::cells::Cells;
-use crate::fault::{CUBES, Kind, TextCause};
+use crate::fault::{Kind, TextCause};
 use crate::opening::Closing;
 use crate::whole_cube::{cube_between, full_cube};
+use cube_sets::CUBES;
 use elem_cubes::{Cell, MAX_EMBEDDING};
 
 /// A cause that has no place yet, or no memory was left.
@@ -33,7 +34,8 @@ impl Gathered {
     // One more cube.
     fn join_cell(&mut self, cell: Cell) -> Result<(), Refusal>
         requires { IsTrue (list_all is_file_factor cell) }
-        ensures joins { (set : Members) → IsGathered self.old set → Joins (cell_cause self.old.kind set cell) (with_cell set (Some cell)) self.new result }
+        ensures joins { (set : Members) → IsGathered self.old set
+            → Joins (cell_cause self.old.kind set cell) (with_cell set (Some cell)) self.new result }
         ensures kept { self.new.kind ≡ self.old.kind }
     {
         let dimension = cell.embedding() as u8;
@@ -55,7 +57,8 @@ impl Gathered {
 
     // A dimension line.
     fn join_dimension(&mut self, z: i64) -> Result<(), Refusal>
-        ensures joins { (set : Members) → IsGathered self.old set → Joins (dimension_cause set z) (with_item set (dimension_line z)) self.new result }
+        ensures joins { (set : Members) → IsGathered self.old set
+            → Joins (dimension_cause set z) (with_item set (dimension_line z)) self.new result }
         ensures kept { self.new.kind ≡ self.old.kind }
     {
         if z < 1 {
@@ -75,7 +78,8 @@ impl Gathered {
     // A cube, or why there is none.
     fn join_cube(&mut self, cube: Result<Cell, TextCause>) -> Result<(), Refusal>
         requires { IfOk cube (λ cell. IsTrue (list_all is_file_factor cell)) }
-        ensures joins { (set : Members) (numbers : ℕ) (q : Option (List Factor)) → IsGathered self.old set → IsCellOf numbers q cube
+        ensures joins { (set : Members) (numbers : ℕ) (q : Option (List Factor))
+            → IsGathered self.old set → IsCellOf numbers q cube
             → Joins (cube_cause self.old.kind set numbers q) (with_cell set q) self.new result }
         ensures kept { self.new.kind ≡ self.old.kind }
     {
@@ -87,7 +91,8 @@ impl Gathered {
 
     /// A whole item.
     pub(crate) fn join(&mut self, closing: Closing) -> Result<(), Refusal>
-        ensures joins { (set : Members) (item : Item) → IsGathered self.old set → IsClosing closing item → fits item ≡ true
+        ensures joins { (set : Members) (item : Item)
+            → IsGathered self.old set → IsClosing closing item → fits item ≡ true
             → Joins (cause_of self.old.kind set item) (with_item set item) self.new result }
         ensures kept { self.new.kind ≡ self.old.kind }
     {

@@ -1,7 +1,11 @@
-//! Laws of set files and of sets: each is the contract of a function that does nothing.
-ghost use Rattle.grid_files.specs.Laws.{TextsHaveOneOutcome, WrittenSetsAreRead};
-ghost use Rattle.grid_files.specs.Closures.{CellsAreFaces};
-ghost use Rattle.grid_files.specs.Neighbours.{NeighboursMeet};
+//! Laws of set files: each is the contract of a function that does nothing.
+ghost use Rattle.grid_files.specs.Laws.{KeywordIsOfTheFormat, TextsHaveOneOutcome, WrittenSetsAreRead};
+
+/// The keyword of the program is the word that the grammar states; its numbers are those of
+/// `elem_cubes::range_is_of_the_formats` and `cube_sets::limit_is_of_the_formats`.
+pub fn keyword_is_of_the_format()
+    ensures { KeywordIsOfTheFormat }
+{}
 
 /// A text has exactly one value, or is refused at exactly one place with one cause.
 pub fn texts_have_one_outcome()
@@ -12,17 +16,4 @@ pub fn texts_have_one_outcome()
 #[tactic(auto, using(crate::proofs::Rereading::written_sets_are_read))]
 pub fn written_sets_are_read()
     ensures { WrittenSetsAreRead }
-{}
-
-/// The cells of a set stand in order, are exactly the faces of its members, have as many factors as these, and lie in the range of
-/// the files with them.
-#[tactic(auto, using(crate::proofs::Covering::cells_are_faces))]
-pub fn cells_are_faces()
-    ensures { CellsAreFaces }
-{}
-
-/// The neighbours of a set stand in order, and are exactly the full cubes that share a point with a member.
-#[tactic(auto, using(crate::proofs::Neighbouring::neighbours_meet))]
-pub fn neighbours_meet()
-    ensures { NeighboursMeet }
 {}

@@ -1,35 +1,27 @@
-//! Sets of cells: set files, read and written, and the algebra of sets.
+//! Texts of sets of cells: set files, read and written. What callers need of sets is given on under
+//! this name. The pieces of a text and the corners of full cubes serve the readers of other files
+//! too.
 #![tactic(auto)]
 
 mod cells;
-mod change;
 mod corner;
-mod cube_set;
 mod fault;
 mod gathered;
-mod inner;
 mod laws;
 mod opening;
 mod piece;
 mod reader;
 mod scanner;
 mod set_file;
-mod sorted;
-mod spread;
 mod whole_cube;
 mod write;
 
-pub use cube_set::{CubeSet, are_members};
-pub use fault::{CUBES, Kind, SetFault, TextCause, TextFault};
-pub use laws::{cells_are_faces, neighbours_meet, texts_have_one_outcome, written_sets_are_read};
+pub use corner::{CornerStep, OpenCorner, in_corner};
+pub use cube_sets::{CUBES, CubeSet, SetFault, are_members};
+pub use fault::{Kind, TextCause, TextFault};
+pub use laws::{keyword_is_of_the_format, texts_have_one_outcome, written_sets_are_read};
+pub use piece::Piece;
+pub use scanner::{Carry, Placed, Scanned, scan};
 pub use set_file::read_set;
+pub use whole_cube::full_cube;
 pub use write::write_set;
-
-#[cfg(test)]
-mod limit_tests;
-#[cfg(test)]
-mod read_tests;
-#[cfg(test)]
-mod tests;
-#[cfg(test)]
-mod write_tests;

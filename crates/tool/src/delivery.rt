@@ -2,13 +2,12 @@
 ghost use Rattle.std.specs.Prelude.{◌≡◌, ◌⊎◌, []};
 ghost use Rattle.outside.specs.Told.{Gains, GainsFront};
 ghost use Rattle.outside.specs.Causes.{Rose};
-ghost use Rattle.report.specs.FaultText.{fault_text};
-ghost use Rattle.loading.specs.Statuses.{status_of};
+ghost use Rattle.faults.specs.FaultText.{fault_text};
+ghost use Rattle.faults.specs.Statuses.{status_of};
 ghost use Rattle.tool.specs.Ends.{Says};
 
-use loading::Status;
 use outside::{Sink, send_all};
-use report::{Fault, fault_text};
+use faults::{Fault, Status, fault_text};
 use std::alloc::Global;
 
 /// Writes the text of a report, or as much of it as can be and the line on that.
@@ -18,8 +17,8 @@ pub fn deliver<O: Sink, E: Sink>(text: &[u8], out: &mut O, err: &mut E) -> Statu
     ensures quiet { result ≡ Status.Done → Gains (E.written err.old) (E.written err.new) [] }
     ensures front { result ≡ Status.Write → GainsFront (O.written out.old) (O.written out.new) text.now }
     ensures rose { result ≡ Status.Write → Rose (O.faults out.old) (O.faults out.new) }
-    ensures line { result ≡ Status.Write →
-        Says (E.written err.old) (E.written err.new) (E.faults err.old) (E.faults err.new) (fault_text Fault.CannotWriteOut) }
+    ensures line { result ≡ Status.Write → Says (E.written err.old) (E.written err.new)
+        (E.faults err.old) (E.faults err.new) (fault_text Fault.CannotWriteOut) }
 {
     if send_all(out, text).is_ok() {
         return Status::Done;

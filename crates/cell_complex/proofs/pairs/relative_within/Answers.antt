@@ -1,7 +1,7 @@
 use Rattle.std.proofs.Common.{◌≡◌, ◌∙◌, refl, sym, ap, subst, arith, List, length, ◌≤◌, Err}
 use Rattle.std.proofs.lemmas.Result.{err_from_is_err_and}
 use Rattle.elem_cubes.specs.Cells.{Factor}
-use Rattle.grid_files.specs.Closures.{cells_of}
+use Rattle.cube_sets.specs.Closures.{cells_of}
 use Rattle.cell_complex.specs.declared.fault.CellsFault.TheVariants.{TooManyCells}
 use Rattle.cell_complex.specs.Sorted.{IsSortedCells, without}
 use Rattle.cell_complex.specs.RelativeComplex.{is_relative}

@@ -1,5 +1,5 @@
 use Rattle.std.proofs.Common.{ap, ◌∙◌}
-use Rattle.grid_files.specs.Neighbours.{neighbourhood}
+use Rattle.cube_sets.specs.Neighbours.{neighbourhood}
 use Rattle.chomp.proofs.SetReports.{is_neighbourhood}
 use Rattle.chomp.proofs.cubnbhd.compute.Goals as goal
 

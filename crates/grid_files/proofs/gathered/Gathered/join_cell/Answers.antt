@@ -1,6 +1,6 @@
 use Rattle.std.proofs.Common.{◌≡◌, ◌⊎◌, inl, inr, sym, length, ◌∙◌, ◌<◌, ◌≤◌, arith}
 use Rattle.elem_cubes.specs.declared.range.TheConstants.{MAX_EMBEDDING}
-use Rattle.grid_files.specs.declared.fault.TheConstants.{CUBES}
+use Rattle.cube_sets.specs.declared.fault.TheConstants.{CUBES}
 use Rattle.grid_files.proofs.Gathering.{on_ok, cell_joins, cell_too_many, with_key}
 use Rattle.grid_files.proofs.gathered.Gathered.join_cell.Goals as goal
 use Rattle.grid_files.proofs.gathered.Gathered.join_cell.Goals.{else-self-ne0-via-then-self-ne0+else-self-dimension, else-self-ne0-via-else-self-ne0}

@@ -1,0 +1,10 @@
+pub mod Merging
+pub mod Sorting
+pub mod Steps
+pub mod SetLemmas
+pub mod SameSets
+pub mod Spreading
+pub mod Spreads
+pub mod Covering
+pub mod Near
+pub mod Neighbouring

@@ -1,0 +1,5 @@
+pub mod Sorted
+pub mod Sets
+pub mod Changes
+pub mod Closures
+pub mod Neighbours

@@ -1,6 +1,0 @@
-use Rattle.std.proofs.Common.{◌∙◌}
-use Rattle.grid_files.proofs.Sorting.{search_has}
-use Rattle.grid_files.proofs.sorted.contains.Goals as goal
-
-pub returns : goal.returns
-returns g c = c.is_ok.ensures.value ∙ search_has g.T.Ord.cmp g.met.T.Ord.total _ _ _ c.requires c.binary_search.ensures.bound c.binary_search.ensures.position
