@@ -13,3 +13,5 @@ pub mod Grading
 pub mod Alike
 pub mod Squares
 pub mod Numbering
+pub mod Pieces
+pub mod Parsing

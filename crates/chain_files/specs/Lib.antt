@@ -7,6 +7,7 @@ pub mod ChainFile
 pub mod Reading
 pub mod Laws
 pub mod Refusals
+pub mod Parts
 pub mod Complexes
 pub mod Faults
 pub mod Readers

@@ -1,5 +1,6 @@
 //! Laws of chain files: each is the contract of a function that does nothing.
 ghost use Rattle.chain_files.specs.Numbers.{NumbersAreTheFormats};
+ghost use Rattle.chain_files.specs.Parts.{ValuesAreByParts};
 ghost use Rattle.chain_files.specs.Refusals.{RefusalsAreFirst};
 ghost use Rattle.chain_files.specs.Laws.{BasesAreOfTheFile, FileComplexesAreComplexes, TextsHaveOneOutcome, ValuesHaveOneOutcome};
 
@@ -22,6 +23,11 @@ pub fn values_have_one_outcome()
 /// Where a file has a complex, its value is one.
 pub fn file_complexes_are_complexes()
     ensures { FileComplexesAreComplexes }
+{}
+
+/// The value of a text is what its header, degrees, boundaries and terms say.
+pub fn values_are_by_parts()
+    ensures { ValuesAreByParts }
 {}
 
 /// With the token at which a text is refused no text goes on to one that has a value, and before it

@@ -222,7 +222,8 @@ impl<const P: u16> Reader<P> {
         token: Token<'_>,
     ) -> Result<(), Refusal>
         ensures takes { (t : Lexeme) → said token.entry ≡ Some t
-            → Takes (step P self.old.known self.old.due place t) self.new.known self.new.due result }
+            → Takes (step P self.old.known self.old.due place t)
+            self.new.known self.new.due result }
         ensures memory { IfErr result (MayCome token.entry) }
     {
         match self.turn(alloc, place, token) {
