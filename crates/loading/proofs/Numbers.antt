@@ -16,11 +16,14 @@ use Rattle.loading.specs.TwoSets.{second_name, two_sets, AreTwoSetsIn}
 use Rattle.loading.specs.Laws.{LimitsOfSets, DimensionsOfSets}
 use Rattle.loading.specs.declared.two_sets.TwoSets.{TwoSets}
 
+parts : (c d : LimitName) (m n : ℕ) → Limit c m ≡ Limit d n → (c ≡ d) × (m ≡ n)
+parts c d m n e = ((let i : c ≡ d = cc in i), (let j : m ≡ n = cc in j))
+
 pub limits : LimitsOfSets
 limits kind name read count number (inl h) = inl (found h)
   where
     found : Finds read file_bytes name (Err (Limit count number)) → (count ≡ FileBytes) × (number ≡ file_bytes)
-    found (inl (f, e, t)) = cc
+    found (inl (f, e, t)) = parts count FileBytes number file_bytes e
     found (inr (t, e)) = cc
 limits kind name read count number (inr (text, f, (place, cause, refused, is))) = inr (by cause is)
   where
@@ -33,7 +36,7 @@ limits kind name read count number (inr (text, f, (place, cause, refused, is))) 
     by CoordinateTooLarge e = cc
     by NotElementary e = cc
     by NotFull e = cc
-    by TooMany e = cc
+    by TooMany e = parts count Cubes number most_cubes e
 
 -- no refusal of a set is that of a dimension
 never_of_a_set : (kind : Kind) (name : List ℕ) (read : Reading) (other : List ℕ) (found before : ℕ) → IsSetIn kind name read (Err (Dimension other found before)) → ⊥

@@ -98,6 +98,11 @@ of_file names limit name within = record { one = λ disk unread. found disk unre
 
 -- ---- one step after another
 
+-- both find it also where one file more cannot be read, or one of them does not find that
+abbrev Stays : {A B : Type 0} → (Reading → Result A Fault → Type 0) → (Reading → A → Result B Fault → Type 0) → List ℕ → Option Disk → B → Type 0
+Stays first next unread holds y = Then (first (but_for unread (reading holds))) (next (but_for unread (reading holds))) (Ok y)
+    ⊎ Then (first (but_for unread (reading holds))) (next (but_for unread (reading holds))) (Err (CannotRead unread))
+
 pub then_files : {A B : Type 0} (names : List (List ℕ)) (first : Reading → Result A Fault → Type 0) (next : Reading → A → Result B Fault → Type 0)
     → IsOfFiles names first → ((x : A) → IsOfFiles names (λ read. next read x)) → IsOfFiles names (λ read. Then (first read) (next read))
 then_files {A} {B} names first next f n = record {
@@ -105,15 +110,11 @@ then_files {A} {B} names first next f n = record {
   stable = stable; named = named;
 }
   where
-    abbrev pub Stays : List ℕ → Option Disk → B → Type 0
-    Stays unread holds y = Then (first (but_for unread (reading holds))) (next (but_for unread (reading holds))) (Ok y)
-        ⊎ Then (first (but_for unread (reading holds))) (next (but_for unread (reading holds))) (Err (CannotRead unread))
-
-    stable : (unread : List ℕ) (holds : Option Disk) (y : B) → Then (first (reading holds)) (next (reading holds)) (Ok y) → Stays unread holds y
+    stable : (unread : List ℕ) (holds : Option Disk) (y : B) → Then (first (reading holds)) (next (reading holds)) (Ok y) → Stays first next unread holds y
     stable unread holds y (x, h, k) = by (f.stable unread holds x h) ((n x).stable unread holds y k)
       where
         by : (first (but_for unread (reading holds)) (Ok x) ⊎ first (but_for unread (reading holds)) (Err (CannotRead unread)))
-            → (next (but_for unread (reading holds)) x (Ok y) ⊎ next (but_for unread (reading holds)) x (Err (CannotRead unread))) → Stays unread holds y
+            → (next (but_for unread (reading holds)) x (Ok y) ⊎ next (but_for unread (reading holds)) x (Err (CannotRead unread))) → Stays first next unread holds y
         by (inl g) (inl l) = inl (x, g, l)
         by (inl g) (inr e) = inr (inr (x, g, e))
         by (inr e) l = inr (inl e)
