@@ -17,7 +17,7 @@ use Rattle.homology_basis.specs.Classes.{IsClass}
 use Rattle.algebraic_reduction.proofs.LinearMaps.{exact, through, single-self, single-other, total_picked_other}
 use Rattle.algebraic_reduction.proofs.Singles.{single_left}
 
-same_small : (p a b : ℕ) → a < p → b < p → Same p a b → a ≡ b
+pub same_small : (p a b : ℕ) → a < p → b < p → Same p a b → a ≡ b
 same_small p a b l m s = sym (mod-eq_of_lt l) ∙ s.same ∙ mod-eq_of_lt m
 
 -- once a normal chain is that chain
@@ -40,7 +40,7 @@ pub one_term_other : (p g : ℕ) (ts : List (ℕ × ℕ)) → ((h : ℕ) → coe
 one_term_other p g ts sum h f = same_trans (one_term p g ts sum h) (exact p _ 0 (single-other g h f))
 
 -- the first term of a normal chain is the coefficient at its generator
-first_at : (p low high : ℕ) (t : ℕ × ℕ) (ts : List (ℕ × ℕ)) → IsNormalWithin p low high (t ∷ ts) → coefficient (t ∷ ts) t.0 ≡ t.1
+pub first_at : (p low high : ℕ) (t : ℕ × ℕ) (ts : List (ℕ × ℕ)) → IsNormalWithin p low high (t ∷ ts) → coefficient (t ∷ ts) t.0 ≡ t.1
 first_at p low high t ts w =
     let a = coefficient-below p (t.0 + 1) high ts t.0 w.3 (omega arith) in
     let b : cond (eqb t.0 t.0) t.1 0 ≡ t.1 = rw (eq-eqb t.0 t.0 refl) refl in

@@ -6,3 +6,4 @@ pub mod Collected
 pub mod ByDegree
 pub mod Beginning
 pub mod Whole
+pub mod Unique

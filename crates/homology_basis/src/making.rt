@@ -1,7 +1,7 @@
 //! Bases are made from logs.
-ghost use Rattle.std.specs.Prelude.{◌≡◌, IfOk};
+ghost use Rattle.std.specs.Prelude.{◌≡◌, ℕ, IfOk};
 ghost use Rattle.algebraic_reduction.specs.Laws.{NothingLeft};
-ghost use Rattle.homology_basis.specs.Bases.{IsBasisByCycles, IsBasisWithContraction};
+ghost use Rattle.homology_basis.specs.Bases.{BasisOfLog, in_degree, IsBasisByCycles, IsBasisWithContraction};
 
 use crate::bases::Basis;
 use crate::classes::Classes;
@@ -34,6 +34,7 @@ pub fn cycle_basis<const P: u16>(
     requires { NothingLeft P log.complex log.steps }
     ensures log { IfOk result (λ b. b.log ≡ log.entry) }
     ensures basis { IfOk result (IsBasisByCycles P) }
+    ensures same { IfOk result (λ b. (c : BasisOfLog) → c.log ≡ log.entry → IsBasisWithContraction P c → (k : ℕ) → in_degree b.cycles k ≡ in_degree c.cycles k) }
 {
     let classes = Classes::of(alloc, field, &log, false)?;
     Ok(CycleBasis { log, classes })
