@@ -9,3 +9,7 @@ pub mod Sorting
 pub mod Collecting
 pub mod Apart
 pub mod Counting
+pub mod Drawing
+pub mod Alike
+pub mod Meeting
+pub mod Going

@@ -1,12 +1,17 @@
 -- Laws of relative complexes: each is the contract of a function of the crate with an empty body.
-use Rattle.std.specs.Prelude.{◌≡◌, ◌↔◌, ℕ, ◌<◌, ◌≤◌, ◌&&◌, ◌++◌, not, true, Bool, List, [], length, slice_index_or}
+use Rattle.std.specs.Prelude.{◌≡◌, ◌↔◌, ℕ, ◌<◌, ◌≤◌, ◌&&◌, ◌++◌, ◌∷◌, not, true, Bool, List, [], length, slice_index_or}
 use Rattle.std.specs.List.{Contains}
 use Rattle.elem_cubes.specs.Cells.{Factor}
+use Rattle.elem_cubes.specs.Faces.{is_face, closure_of}
+use Rattle.elem_cubes.specs.Laws.{cell_at}
 use Rattle.chains.specs.Homology.{IsBoundaryOperator, IsChain, IsCycle, IsNull, IsBasis}
 use Rattle.chains.specs.Terms.{coefficient}
 use Rattle.chains.specs.ChainComplex.{ChainComplex, IsComplex, IsBasisOf, system}
 use Rattle.cube_sets.specs.Closures.{is_cell_of}
 use Rattle.cell_complex.specs.RelativeComplex.{is_relative, complex_on, relative_complex, IsClosed, IsClosedList, SquaresToZero}
+use Rattle.cell_complex.specs.Acyclic.{IsAcyclic}
+use Rattle.cell_complex.specs.AcyclicLists.{IsAcyclicList}
+use Rattle.cell_complex.specs.Growth.{cells_in, IsMovable, IsGrowth}
 use Rattle.cell_complex.specs.Numbering.{IsRelativeComplex, by_cell, by_number, cell_coefficient, cell_terms}
 
 -- the cells of a set are closed under faces, the cells of a list that is closed are those of the list, and to join the
@@ -50,3 +55,32 @@ pub record ChainsAreByNumberOrCell (p : ℕ) (x a cells : List (List Factor)) (K
 abbrev pub BasesAreByNumberOrCell : Type 0
 BasesAreByNumberOrCell =
     (p : ℕ) (x a cells : List (List Factor)) (K : ChainComplex) → 1 ≤ p → IsRelativeComplex p x a cells K → ChainsAreByNumberOrCell p x a cells K
+
+-- ---- acyclic sets
+
+-- whether a set is acyclic depends on its cells alone
+abbrev pub AcyclicityIsOfCells : Type 0
+AcyclicityIsOfCells = (p : ℕ) (x y : List (List Factor)) → ((q : List Factor) → is_cell_of x q ≡ is_cell_of y q) → IsAcyclic p x → IsAcyclic p y
+
+-- a list that has each of its cells once, and with each its faces, is acyclic as a list exactly where it is as a set
+abbrev pub AcyclicListsAreSets : Type 0
+AcyclicListsAreSets =
+    (p : ℕ) (cells : List (List Factor)) → IsClosedList cells
+    → ((i j : ℕ) → i < length cells → j < length cells → cell_at cells i ≡ cell_at cells j → i ≡ j)
+    → IsAcyclic p cells ↔ IsAcyclicList p cells
+
+-- all faces of a cell are acyclic
+abbrev pub CellsAreAcyclic : Type 0
+CellsAreAcyclic = (p : ℕ) (q : List Factor) → 1 ≤ p → IsAcyclic p (closure_of q)
+
+-- where those faces of a cell that a closed set has are acyclic, the other faces carry no homology
+abbrev pub MovableCellsAreNull : Type 0
+MovableCellsAreNull =
+    (p : ℕ) (test : List Factor → Bool) (q : List Factor) → 1 ≤ p → IsClosed test → IsAcyclic p (cells_in test q)
+    → (k : ℕ) (z : List Factor → ℕ) → IsCycle p (complex_on p (λ s. is_face q s && not (test s))) k z → IsNull p (complex_on p (λ s. is_face q s && not (test s))) k z
+
+-- a growth goes on with a member that may be moved
+abbrev pub GrowthsGoOn : Type 0
+GrowthsGoOn =
+    (p : ℕ) (x a cubes : List (List Factor)) (q : List Factor)
+    → IsGrowth p x a cubes → Contains x q → IsMovable p (a ++ cubes) q → IsGrowth p x a (cubes ++ q ∷ [])

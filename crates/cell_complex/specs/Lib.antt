@@ -3,4 +3,8 @@ pub mod Sorted
 pub mod Numbering
 pub mod Boundaries
 pub mod CellCount
+pub mod Acyclic
+pub mod AcyclicLists
+pub mod Growth
+pub mod FreePairs
 pub mod Laws

@@ -10,8 +10,8 @@ ghost use Rattle.cell_complex.specs.Sorted.{without};
 
 use crate::fault::CellsFault;
 use crate::numbered::Numbered;
-use elem_cubes::Cell;
 use cube_sets::{CubeSet, SetFault};
+use elem_cubes::Cell;
 use std::alloc::{AllocError, Global};
 use std::cmp::Ordering;
 
@@ -29,7 +29,9 @@ pub fn relative(alloc: Global, x: &CubeSet, a: &CubeSet) -> Result<Numbered, Cel
     relative_within(alloc, x, a, CELLS)
 }
 
-pub(crate) fn relative_within(
+/// The relative cells of a pair, where both sets together have no more than so many cells. `TooManyCells` comes exactly
+/// where they have more.
+pub fn relative_within(
     alloc: Global,
     x: &CubeSet,
     a: &CubeSet,

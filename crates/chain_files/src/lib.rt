@@ -19,8 +19,3 @@ pub use laws::{
     bases_are_of_the_file, file_complexes_are_complexes, texts_have_one_outcome,
     values_have_one_outcome,
 };
-
-#[cfg(test)]
-mod fault_tests;
-#[cfg(test)]
-mod tests;

@@ -17,8 +17,8 @@ use elem_cubes::{Cell, MAX_EMBEDDING};
 use std::alloc::{AllocError, Global};
 use std::marker::Model;
 
-/// A set of cells of one embedding dimension, from 1 to `MAX_EMBEDDING`, or 0 where that is unknown and the set is empty. It
-/// is seen as its dimension and the sorted list of its members.
+/// A set of cells of one embedding dimension, from 1 to `MAX_EMBEDDING`, or 0 where that is unknown
+/// and the set is empty. It is seen as its dimension and the sorted list of its members.
 #[derive(Drop)]
 pub struct CubeSet {
     dimension: u8,
@@ -49,8 +49,8 @@ fn is_member(dimension: u8, cell: &Cell) -> bool
 }
 
 impl CubeSet {
-    /// The set of these cells; the same cell may stand more than once. All of them lie in the range of the files and have
-    /// this embedding dimension, which is 0 for an empty list alone.
+    /// The set of these cells; the same cell may stand more than once. All of them lie in the range
+    /// of the files and have this embedding dimension, which is 0 for an empty list alone.
     pub fn of_cells(dimension: u8, cells: Vec<Cell>) -> Result<CubeSet, AllocError>
         requires axes { dimension ≤ MAX_EMBEDDING }
         requires few { vec_len cells < 2 ^ 32 }
@@ -181,8 +181,9 @@ impl CubeSet {
         self.cells.iter().all(|cell| cell.is_full())
     }
 
-    /// The set of all full cubes that share a point with a member; all members are full cubes. `Coordinates` comes exactly where one
-    /// of them has an end outside the range of the files, else `TooMany` exactly where they are more than `CUBES`.
+    /// The set of all full cubes that share a point with a member; all members are full cubes.
+    /// `Coordinates` comes exactly where one of them has an end outside the range of the files,
+    /// else `TooMany` exactly where they are more than `CUBES`.
     pub fn neighbourhood(&self, alloc: Global) -> Result<CubeSet, SetFault>
         requires { IsTrue (are_full self.now.cells) }
         ensures cells { IfOk result (λ s. s ≡ neighbourhood self.now) }

@@ -1,5 +1,5 @@
-//! Sets of cells of one embedding dimension, and their algebra: the union, the intersection, the cells of a set, its
-//! neighbourhood.
+//! Sets of cells of one embedding dimension, and their algebra: the union, the intersection, the
+//! cells of a set, its neighbourhood.
 #![tactic(auto)]
 
 mod change;

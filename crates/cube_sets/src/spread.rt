@@ -1,5 +1,5 @@
-//! Sorted lists of cells spread along the axes: beside each cell those to which its intervals are changed. A change keeps the
-//! order of the cells that it changes, so that no list is sorted again.
+//! Sorted lists of cells spread along the axes: beside each cell those to which its intervals are
+//! changed. A change keeps the order of the cells that it changes, so that no list is sorted again.
 ghost use Rattle.std.specs.Prelude.{◌≡◌, ◌<◌, ◌≤◌, ◌++◌, length, vec_len, IsTrue, IfOk, OnOk, IfSome, IfNone};
 ghost use Rattle.std.specs.List.{list_all};
 ghost use Rattle.std.specs.List.Sorted.{IsStrictlySortedBy};
@@ -56,8 +56,8 @@ fn all_changed(
     Ok(all)
 }
 
-// The cells that have an interval along the axis, each with that interval changed in either way; nothing where they are more
-// than so many.
+// The cells that have an interval along the axis, each with that interval changed in either way;
+// nothing where they are more than so many.
 fn both_changed(
     alloc: Global,
     cells: &[Cell],
@@ -75,7 +75,8 @@ fn both_changed(
     union(alloc, &first, &second, limit)
 }
 
-// The cells and those to which they are changed along one axis; nothing where they are more than so many.
+// The cells and those to which they are changed along one axis; nothing where they are more than so
+// many.
 fn spread_once(
     alloc: Global,
     cells: &[Cell],
@@ -94,8 +95,8 @@ fn spread_once(
     }
 }
 
-/// The cells and those to which they are changed along so many axes, one after the other; nothing where they are more than so
-/// many. All of them lie in the range of the files.
+/// The cells and those to which they are changed along so many axes, one after the other; nothing
+/// where they are more than so many. All of them lie in the range of the files.
 pub(crate) fn spread(
     alloc: Global,
     cells: &[Cell],

@@ -1,4 +1,5 @@
-//! Texts of sets of cells: set files, read and written. What callers need of sets is given on under this name.
+//! Texts of sets of cells: set files, read and written. What callers need of sets is given on under
+//! this name.
 #![tactic(auto)]
 
 mod cells;
@@ -19,12 +20,3 @@ pub use fault::{Kind, TextCause, TextFault};
 pub use laws::{texts_have_one_outcome, written_sets_are_read};
 pub use set_file::read_set;
 pub use write::write_set;
-
-#[cfg(test)]
-mod limit_tests;
-#[cfg(test)]
-mod read_tests;
-#[cfg(test)]
-mod tests;
-#[cfg(test)]
-mod write_tests;

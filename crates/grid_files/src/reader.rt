@@ -1,4 +1,5 @@
-//! The reader of set files: a machine of fixed size over the bytes of a text, beside the distinct cells so far.
+//! The reader of set files: a machine of fixed size over the bytes of a text, beside the distinct
+//! cells so far.
 ghost use Rattle.std.specs.Prelude.{◌≡◌, ◌∷◌, ℕ, List, IfOk};
 ghost use Rattle.cube_sets.specs.Sets.{Members};
 ghost use Rattle.grid_files.specs.Items.{Item, Open, nothing};

@@ -10,6 +10,3 @@ mod prepared;
 pub use bases::Basis;
 pub use making::basis;
 pub use prepared::{Prepared, prepare};
-
-#[cfg(test)]
-mod tests;

@@ -118,7 +118,7 @@ same_set kind name text (Err f) (Err g) h k =
 set_one : (kind : Kind) (name text : List ℕ) → IsOne (IsSetOf kind name text)
 set_one kind name text = let o = set_outcome kind name text (one_outcome.some kind text) in record { outcome = o.0; holds = o.1; one = same_set kind name text }
 
-set_plain : (kind : Kind) (name text : List ℕ) (fault : Fault) → IsSetOf kind name text (Err fault) → IsPlain fault
+pub set_plain : (kind : Kind) (name text : List ℕ) (fault : Fault) → IsSetOf kind name text (Err fault) → IsPlain fault
 set_plain kind name text fault (place, cause, refused, is) = subst IsPlain (sym is) (by cause)
   where
     by : (cause : TextCause) → IsPlain (text_fault name place cause)

@@ -28,7 +28,7 @@ pub fn load_two_sets<F: Files>(
     x: &Name,
     y: Option<&Name>,
 ) -> Result<TwoSets, Fault>
-    ensures loads { Loads (two_bytes (option_copied y)) (AreTwoSetsIn x.now (option_copied y))
+    ensures loads { Loads (two_bytes (option_copied y.entry)) (AreTwoSetsIn x.now (option_copied y.entry))
         (F.seen files.old) (F.seen files.new) result }
     ensures operands { IfOk result AreOperands }
 {
@@ -47,7 +47,7 @@ fn pair_of(
 ) -> Result<TwoSets, Fault>
     requires few_of_x { length x.cells ≤ CUBES }
     requires few_of_y { length y.cells ≤ CUBES }
-    ensures due { IsDue (two_sets (second_name x_name.now (option_copied y_name)) x y) result }
+    ensures due { IsDue (two_sets (second_name x_name.now (option_copied y_name.entry)) x y) result }
     ensures operands { IfOk result AreOperands }
 {
     if agree(x.dimension(), y.dimension()) {

@@ -62,7 +62,7 @@ module _ (job : Job) (once : HasOneJudgement job) (old new : Seen) where
     by_why : (fault : Fault) → Why fault → (disk : Disk) → old.holds ≡ Some disk → Exact (status_of fault) disk
     by_why fault (for_memory e) disk is outcome k = subst (λ (f : Fault). EndsAs outcome Failed wrote (status_of f)) (sym e) (by_memory outcome Failed wrote)
     by_why fault (for_a_read e failed) disk is outcome k = subst (λ (s : Status). EndsAs outcome Failed wrote s) (sym e) (by_read outcome Failed wrote failed)
-    by_why fault (as_judged h) disk is = judged disk fault (subst (λ (o : Option Disk). IsJudged job (reading o) (Err fault)) is h)
+    by_why fault (as_judged h) disk is outcome k = judged disk fault (subst (λ (o : Option Disk). IsJudged job (reading o) (Err fault)) is h) outcome k
 
     -- the status of a run that ended with a fault
     pub refusal_ends : (fault said : Fault) (status : Status) → RestsOn job old new fault → (said ≡ fault) ⊎ (said ≡ OutOfMemory) → status ≡ status_of said → IfSome old.holds (Exact status)
