@@ -7,6 +7,7 @@ use Rattle.faults.specs.declared.status.Status.TheVariants as statuses
 use Rattle.faults.specs.Statuses.{status_of, without_chain}
 use Rattle.loading.specs.Steps.{Is}
 use Rattle.loading.specs.Readings.{Reading}
+use Rattle.loading.specs.Loads.{Loads}
 use Rattle.loading.specs.Jobs.{Job, IsJudged, HasOneJudgement, IsRefusedWith, Answers}
 use Rattle.loading.specs.Refused.{refused_job}
 use Rattle.loading.proofs.OfFiles.{made, value_made}
@@ -31,3 +32,7 @@ refusal fault old = record { right = tt; fault = inr (tt, refl, refl); given = o
 -- any job may end for want of memory
 pub no_memory : (job : Job) (old : Seen) (fault : Fault) → fault ≡ OutOfMemory → Answers job old old (Err fault)
 no_memory job old fault e = record { right = tt; fault = inl (inl e); given = omega arith; left = refl }
+
+-- what the files of a job are refused with, the job is refused with
+pub load_refused : (job : Job) (old new : Seen) (fault : Fault) → Loads {A = job.Input} job.most job.gives old new (Err fault) → Answers job old new (Err fault)
+load_refused job old new fault h = record { right = tt; fault = inl h.fault; given = h.given; left = h.holds }
