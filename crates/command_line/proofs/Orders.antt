@@ -1,13 +1,12 @@
 -- Options that change places.
-use Rattle.std.proofs.Common.{◌≡◌, ℕ, Bool, true, false, cond, ◌||◌, ◌&&◌, not, List, [], ◌∷◌, ◌++◌, append_assoc, Option, None, Some, Ok, refl, sym, ap, ◌∙◌, subst}
+use Rattle.std.proofs.Common.{◌≡◌, ℕ, Bool, true, false, cond, ◌||◌, ◌&&◌, not, List, [], ◌∷◌, ◌++◌, Option, None, Some, Ok, refl, sym, ap, ◌∙◌, subst}
 use Rattle.std.specs.Prelude.{nat_le, length}
 use Rattle.std.specs.Option.{option_map, option_and_then}
-use Rattle.command_line.specs.declared.form.ToolName.{ToolName}
 use Rattle.command_line.specs.declared.choice.Choice.{Choice}
 use Rattle.command_line.specs.declared.choice.Choice.TheVariants.{Modulus, Cycles}
 use Rattle.command_line.specs.declared.choice.Setting.{Setting}
 use Rattle.command_line.specs.declared.word.Next.TheVariants.{Anything}
-use Rattle.command_line.specs.Forms.{Spoken, tool_named, form_of, same_choice, is_set, are_once, words_read}
+use Rattle.command_line.specs.Forms.{Row, Spoken, form_named, same_choice, is_set, are_once, words_read}
 use Rattle.command_line.specs.Words.{modulus_of, modulus_in, with_modulus, options_in, with_options, chosen_of, request_of, formed, command_with, command_of}
 use Rattle.command_line.specs.Laws.{AreWhole}
 use Rattle.command_line.proofs.Wholes.{onto, behind_whole}
@@ -70,68 +69,68 @@ same_swap s t v = record {
   modulus = λ e. modulus_swap s.choice t.choice s.value t.value (modulus_in v) (is_set s.choice v) (not (is_set t.choice v) && are_once v) e;
 }
 
-same_past : (s : Setting) (y v : List Setting) → SaySame (s ∷ y ++ v) (y ++ s ∷ v)
+same_past : (s : Setting) (y v : List Setting) → SaySame (s ∷ (y ++ v)) (y ++ (s ∷ v))
 same_past s [] v = same_refl (s ∷ v)
-same_past s (t ∷ y) v = same_trans (s ∷ t ∷ y ++ v) (t ∷ s ∷ y ++ v) (t ∷ y ++ s ∷ v) (same_swap s t (y ++ v)) (same_cons t (s ∷ y ++ v) (y ++ s ∷ v) (same_past s y v))
+same_past s (t ∷ y) v = same_trans (s ∷ t ∷ (y ++ v)) (t ∷ s ∷ (y ++ v)) (t ∷ (y ++ (s ∷ v))) (same_swap s t (y ++ v)) (same_cons t (s ∷ (y ++ v)) (y ++ (s ∷ v)) (same_past s y v))
 
-same_blocks : (x y v : List Setting) → SaySame (x ++ y ++ v) (y ++ x ++ v)
+same_blocks : (x y v : List Setting) → SaySame (x ++ (y ++ v)) (y ++ (x ++ v))
 same_blocks [] y v = same_refl (y ++ v)
-same_blocks (s ∷ x) y v = same_trans (s ∷ x ++ y ++ v) (s ∷ y ++ x ++ v) (y ++ s ∷ x ++ v) (same_cons s (x ++ y ++ v) (y ++ x ++ v) (same_blocks x y v)) (same_past s y (x ++ v))
+same_blocks (s ∷ x) y v = same_trans (s ∷ (x ++ (y ++ v))) (s ∷ (y ++ (x ++ v))) (y ++ (s ∷ (x ++ v))) (same_cons s (x ++ (y ++ v)) (y ++ (x ++ v)) (same_blocks x y v)) (same_past s y (x ++ v))
 
 same_behind : (u a b : List Setting) → SaySame a b → SaySame (u ++ a) (u ++ b)
 same_behind [] a b p = p
 same_behind (s ∷ u) a b p = same_cons s (u ++ a) (u ++ b) (same_behind u a b p)
 
-module _ (tool : ToolName) (o : List (List ℕ)) (a b : List Setting) (p : SaySame a b) where
+module _ (form : Row) (o : List (List ℕ)) (a b : List Setting) (p : SaySame a b) where
   abbrev of : List Setting → Spoken
   of ss = record { operands = o; settings = ss }
 
-  chosen_same : are_once a ≡ true → chosen_of tool (of a) ≡ chosen_of tool (of b)
-  chosen_same e = ap (option_map (with_options tool o))
+  chosen_same : are_once a ≡ true → chosen_of form (of a) ≡ chosen_of form (of b)
+  chosen_same e = ap (option_map (with_options form.tool o))
       (ap (λ cycles. option_map (with_modulus cycles) (modulus_in a)) (p.set Cycles) ∙ ap (option_map (with_modulus (is_set Cycles b))) (p.modulus e))
 
-  once_same : (x y : Bool) → are_once a ≡ x → x ≡ y → option_and_then (chosen_of tool) (cond x (Some (of a)) None) ≡ option_and_then (chosen_of tool) (cond y (Some (of b)) None)
+  once_same : (x y : Bool) → are_once a ≡ x → x ≡ y → option_and_then (chosen_of form) (cond x (Some (of a)) None) ≡ option_and_then (chosen_of form) (cond y (Some (of b)) None)
   once_same true true e f = chosen_same e
   once_same false false e f = refl
   once_same true false e f = cc
   once_same false true e f = cc
 
-  fits_same : (few many : Bool) → option_and_then (chosen_of tool) (cond (few && many && are_once a) (Some (of a)) None) ≡ option_and_then (chosen_of tool) (cond (few && many && are_once b) (Some (of b)) None)
+  fits_same : (few many : Bool) → option_and_then (chosen_of form) (cond (few && many && are_once a) (Some (of a)) None) ≡ option_and_then (chosen_of form) (cond (few && many && are_once b) (Some (of b)) None)
   fits_same false many = refl
   fits_same true false = refl
   fits_same true true = once_same (are_once a) (are_once b) refl p.once
 
-  request_same : request_of tool (of a) ≡ request_of tool (of b)
-  request_same = fits_same (nat_le (form_of tool).fewest (length o)) (nat_le (length o) (form_of tool).most)
+  request_same : request_of form (of a) ≡ request_of form (of b)
+  request_same = fits_same (nat_le form.fewest (length o)) (nat_le (length o) form.most)
 
-module _ (tool : ToolName) (so_far these those : Spoken) (none : these.operands ≡ []) where
+module _ (form : Row) (so_far these those : Spoken) (none : these.operands ≡ []) where
   operands_same : (m : Spoken) → (onto so_far (onto these (onto those m))).operands ≡ (onto so_far (onto those (onto these m))).operands
   operands_same m = ap (λ os. so_far.operands ++ (os ++ (those.operands ++ m.operands))) none ∙ sym (ap (λ os. so_far.operands ++ (those.operands ++ (os ++ m.operands))) none)
 
-  request_swapped : (m : Spoken) → request_of tool (onto so_far (onto these (onto those m))) ≡ request_of tool (onto so_far (onto those (onto these m)))
+  request_swapped : (m : Spoken) → request_of form (onto so_far (onto these (onto those m))) ≡ request_of form (onto so_far (onto those (onto these m)))
   request_swapped m =
-      ap (λ os. request_of tool (record { operands = os; settings = so_far.settings ++ these.settings ++ those.settings ++ m.settings })) (operands_same m)
-      ∙ request_same tool (onto so_far (onto those (onto these m))).operands (so_far.settings ++ these.settings ++ those.settings ++ m.settings) (so_far.settings ++ those.settings ++ these.settings ++ m.settings)
-      (same_behind so_far.settings (these.settings ++ those.settings ++ m.settings) (those.settings ++ these.settings ++ m.settings) (same_blocks these.settings those.settings m.settings))
+      ap (λ os. request_of form (record { operands = os; settings = so_far.settings ++ (these.settings ++ (those.settings ++ m.settings)) })) (operands_same m)
+      ∙ request_same form (onto so_far (onto those (onto these m))).operands (so_far.settings ++ (these.settings ++ (those.settings ++ m.settings))) (so_far.settings ++ (those.settings ++ (these.settings ++ m.settings)))
+      (same_behind so_far.settings (these.settings ++ (those.settings ++ m.settings)) (those.settings ++ (these.settings ++ m.settings)) (same_blocks these.settings those.settings m.settings))
 
-  rest_swapped : (r : Option Spoken) → option_and_then (request_of tool) (option_map (onto so_far) (option_map (onto these) (option_map (onto those) r)))
-      ≡ option_and_then (request_of tool) (option_map (onto so_far) (option_map (onto those) (option_map (onto these) r)))
+  rest_swapped : (r : Option Spoken) → option_and_then (request_of form) (option_map (onto so_far) (option_map (onto these) (option_map (onto those) r)))
+      ≡ option_and_then (request_of form) (option_map (onto so_far) (option_map (onto those) (option_map (onto these) r)))
   rest_swapped None = refl
   rest_swapped (Some m) = request_swapped m
 
-three : (tool : ToolName) (a b c rest : List (List ℕ)) (x y z : Spoken) → AreWhole tool a x → AreWhole tool b y → AreWhole tool c z
-    → words_read tool Anything (a ++ b ++ c ++ rest) ≡ option_map (onto x) (option_map (onto y) (option_map (onto z) (words_read tool Anything rest)))
-three tool a b c rest x y z p q r =
-    behind_whole tool a (b ++ c ++ rest) x p
-    ∙ ap (option_map (onto x)) (behind_whole tool b (c ++ rest) y q ∙ ap (option_map (onto y)) (behind_whole tool c rest z r))
+three : (form : Row) (a b c rest : List (List ℕ)) (x y z : Spoken) → AreWhole form a x → AreWhole form b y → AreWhole form c z
+    → words_read form Anything (a ++ (b ++ (c ++ rest))) ≡ option_map (onto x) (option_map (onto y) (option_map (onto z) (words_read form Anything rest)))
+three form a b c rest x y z p q r =
+    behind_whole form a (b ++ (c ++ rest)) x p
+    ∙ ap (option_map (onto x)) (behind_whole form b (c ++ rest) y q ∙ ap (option_map (onto y)) (behind_whole form c rest z r))
 
-pub options_change_places : (name : List ℕ) (tool : ToolName) → tool_named name ≡ Some tool
+pub options_change_places : (name : List ℕ) (form : Row) → form_named name ≡ Some form
     → (before options others after : List (List ℕ)) (so_far these those : Spoken)
-    → AreWhole tool before so_far → AreWhole tool options these → AreWhole tool others those → these.operands ≡ []
-    → command_of (name ∷ before ++ options ++ others ++ after) ≡ command_of (name ∷ before ++ others ++ options ++ after)
-options_change_places name tool named before options others after so_far these those b o t none =
-    ap (λ n. command_with n (before ++ options ++ others ++ after)) named
-    ∙ ap (λ r. formed tool (option_and_then (request_of tool) r)) (three tool before options others after so_far these those b o t)
-    ∙ ap (formed tool) (rest_swapped tool so_far these those none (words_read tool Anything after))
-    ∙ sym (ap (λ r. formed tool (option_and_then (request_of tool) r)) (three tool before others options after so_far those these b t o))
-    ∙ sym (ap (λ n. command_with n (before ++ others ++ options ++ after)) named)
+    → AreWhole form before so_far → AreWhole form options these → AreWhole form others those → these.operands ≡ []
+    → command_of (name ∷ (before ++ (options ++ (others ++ after)))) ≡ command_of (name ∷ (before ++ (others ++ (options ++ after))))
+options_change_places name form named before options others after so_far these those b o t none =
+    ap (λ n. command_with n (before ++ (options ++ (others ++ after)))) named
+    ∙ ap (λ r. formed form (option_and_then (request_of form) r)) (three form before options others after so_far these those b o t)
+    ∙ ap (formed form) (rest_swapped form so_far these those none (words_read form Anything after))
+    ∙ sym (ap (λ r. formed form (option_and_then (request_of form) r)) (three form before others options after so_far those these b t o))
+    ∙ sym (ap (λ n. command_with n (before ++ (others ++ (options ++ after)))) named)

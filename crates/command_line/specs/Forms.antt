@@ -5,7 +5,7 @@ use Rattle.std.specs.List.{list_any, position_or_len, before_first, after_first}
 use Rattle.std.specs.Str.{bytes_eq}
 use Rattle.std.specs.declared.string.String.{String}
 use Rattle.command_line.specs.declared.form.ToolName.{ToolName}
-use Rattle.command_line.specs.declared.form.ToolName.TheVariants.{Homcubes, Cubunion, Cubinter, Cubnbhd, Cubcells, Homchain}
+use Rattle.command_line.specs.declared.form.ToolName.TheVariants as tools
 use Rattle.command_line.specs.declared.choice.Choice.{Choice}
 use Rattle.command_line.specs.declared.choice.Choice.TheVariants.{Modulus, Cycles}
 use Rattle.command_line.specs.declared.word.Next.{Next}
@@ -17,23 +17,30 @@ use Rattle.command_line.specs.declared.choice.Setting.{Setting}
 
 -- ---- the table
 
--- a tool: its name, the fewest and the most operands, and its options
+-- a tool with its name, the fewest and the most operands, and its options
 pub record Row : Type 0 where
+  pub tool : ToolName
   pub name : List ℕ
   pub fewest : ℕ
   pub most : ℕ
   pub options : List Choice
 
-abbrev pub form_of : ToolName → Row
-form_of Homcubes = record { name = codes "homcubes"; fewest = 1; most = 2; options = Modulus ∷ Cycles ∷ [] }
-form_of Cubunion = record { name = codes "cubunion"; fewest = 2; most = 2; options = [] }
-form_of Cubinter = record { name = codes "cubinter"; fewest = 2; most = 2; options = [] }
-form_of Cubnbhd = record { name = codes "cubnbhd"; fewest = 1; most = 1; options = [] }
-form_of Cubcells = record { name = codes "cubcells"; fewest = 1; most = 1; options = [] }
-form_of Homchain = record { name = codes "homchain"; fewest = 1; most = 1; options = Modulus ∷ Cycles ∷ [] }
+abbrev pub row : ToolName → List ℕ → ℕ → ℕ → List Choice → Row
+row tool name fewest most options = record { tool = tool; name = name; fewest = fewest; most = most; options = options }
 
-abbrev pub tools : List ToolName
-tools = Homcubes ∷ Cubunion ∷ Cubinter ∷ Cubnbhd ∷ Cubcells ∷ Homchain ∷ []
+-- the options of the tools that compute homology
+abbrev pub of_homology : List Choice
+of_homology = Modulus ∷ Cycles ∷ []
+
+abbrev pub forms : List Row
+forms =
+    row tools.Homcubes (codes "homcubes") 1 2 of_homology
+    ∷ row tools.Cubunion (codes "cubunion") 2 2 []
+    ∷ row tools.Cubinter (codes "cubinter") 2 2 []
+    ∷ row tools.Cubnbhd (codes "cubnbhd") 1 1 []
+    ∷ row tools.Cubcells (codes "cubcells") 1 1 []
+    ∷ row tools.Homchain (codes "homchain") 1 1 of_homology
+    ∷ []
 
 -- an option: its name, and whether it takes a value
 abbrev pub option_name : Choice → List ℕ
@@ -49,11 +56,11 @@ abbrev pub named : {A : Type 0} → (A → List ℕ) → List A → List ℕ →
 named name_of [] word = None
 named name_of (x ∷ xs) word = if bytes_eq word (name_of x) then Some x else named name_of xs word
 
-abbrev pub tool_named : List ℕ → Option ToolName
-tool_named word = named (λ tool. (form_of tool).name) tools word
+abbrev pub form_named : List ℕ → Option Row
+form_named word = named (λ form. form.name) forms word
 
-abbrev pub option_named : ToolName → List ℕ → Option Choice
-option_named tool word = named option_name (form_of tool).options word
+abbrev pub option_named : Row → List ℕ → Option Choice
+option_named form word = named option_name form.options word
 
 -- ---- what one word says
 
@@ -89,20 +96,20 @@ valued (Some choice) value =
     if takes_value choice && not (is_empty value) then Some (record { said = Set (record { choice = choice; value = Some value }); next = Anything })
     else None
 
-abbrev pub option_read : ToolName → List ℕ → Option WordRead
-option_read tool word =
-    if nat_lt (position_or_len is_equals word) (length word) then valued (option_named tool (before_first is_equals word)) (after_first is_equals word)
-    else alone (option_named tool word)
+abbrev pub option_read : Row → List ℕ → Option WordRead
+option_read form word =
+    if nat_lt (position_or_len is_equals word) (length word) then valued (option_named form (before_first is_equals word)) (after_first is_equals word)
+    else alone (option_named form word)
 
 -- what a word says, by what may come next, and what may come after it; nothing where it fits none
-abbrev pub word_read : ToolName → Next → List ℕ → Option WordRead
-word_read tool Anything word =
+abbrev pub word_read : Row → Next → List ℕ → Option WordRead
+word_read form Anything word =
     if bytes_eq word (codes "--") then Some (record { said = Nothing; next = OperandsAlone })
     else if is_plain word then Some (record { said = Operand word; next = Anything })
-    else option_read tool word
-word_read tool (ValueOf choice) word =
+    else option_read form word
+word_read form (ValueOf choice) word =
     if is_plain word then Some (record { said = Set (record { choice = choice; value = Some word }); next = Anything }) else None
-word_read tool OperandsAlone word =
+word_read form OperandsAlone word =
     if is_empty word then None else Some (record { said = Operand word; next = OperandsAlone })
 
 -- ---- what all words say
@@ -137,9 +144,9 @@ word_first None more = None
 word_first (Some read) more = option_map (also read.said) (more read.next)
 
 -- what the words of a tool say, by what may come first; nothing where they are of no form
-abbrev pub words_read : ToolName → Next → List (List ℕ) → Option Spoken
-words_read tool next [] = at_end next
-words_read tool next (word ∷ words) = word_first (word_read tool next word) (λ next. words_read tool next words)
+abbrev pub words_read : Row → Next → List (List ℕ) → Option Spoken
+words_read form next [] = at_end next
+words_read form next (word ∷ words) = word_first (word_read form next word) (λ next. words_read form next words)
 
 -- each option stands once
 abbrev pub same_choice : Choice → Choice → Bool
@@ -158,5 +165,5 @@ are_once (s ∷ ss) = not (is_set s.choice ss) && are_once ss
 abbrev pub fits : Row → Spoken → Bool
 fits form spoken = nat_le form.fewest (length spoken.operands) && nat_le (length spoken.operands) form.most && are_once spoken.settings
 
-abbrev pub fitting : ToolName → Spoken → Option Spoken
-fitting tool spoken = if fits (form_of tool) spoken then Some spoken else None
+abbrev pub fitting : Row → Spoken → Option Spoken
+fitting form spoken = if fits form spoken then Some spoken else None

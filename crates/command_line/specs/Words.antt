@@ -9,7 +9,7 @@ use Rattle.command_line.specs.declared.choice.Choice.{Choice}
 use Rattle.command_line.specs.declared.choice.Choice.TheVariants.{Modulus, Cycles}
 use Rattle.command_line.specs.declared.choice.Setting.{Setting}
 use Rattle.command_line.specs.declared.word.Next.TheVariants.{Anything}
-use Rattle.command_line.specs.Forms.{Spoken, form_of, named, tool_named, words_read, is_set, fitting}
+use Rattle.command_line.specs.Forms.{Row, Spoken, named, form_named, words_read, is_set, fitting}
 
 -- ---- what the options say
 
@@ -50,26 +50,26 @@ abbrev pub with_options : ToolName → List (List ℕ) → Chosen → Request
 with_options tool operands options = record { tool = tool; operands = operands; options = options }
 
 -- what the operands and options of a tool's form ask for
-abbrev pub chosen_of : ToolName → Spoken → Option Request
-chosen_of tool spoken = option_map (with_options tool spoken.operands) (options_in spoken.settings)
+abbrev pub chosen_of : Row → Spoken → Option Request
+chosen_of form spoken = option_map (with_options form.tool spoken.operands) (options_in spoken.settings)
 
 -- the same of any operands and options: nothing where they are not of the form
-abbrev pub request_of : ToolName → Spoken → Option Request
-request_of tool spoken = option_and_then (chosen_of tool) (fitting tool spoken)
+abbrev pub request_of : Row → Spoken → Option Request
+request_of form spoken = option_and_then (chosen_of form) (fitting form spoken)
 
--- what was found, or that the words are not of the tool's form
-abbrev pub formed : {A : Type 0} → ToolName → Option A → Result A Fault
-formed tool None = Err (NotAForm (form_of tool).name)
-formed tool (Some x) = Ok x
+-- what was found, or that the words are not of the form
+abbrev pub formed : {A : Type 0} → Row → Option A → Result A Fault
+formed form None = Err (NotAForm form.name)
+formed form (Some x) = Ok x
 
-abbrev pub command_with : Option ToolName → List (List ℕ) → Result Request Fault
+abbrev pub command_with : Option Row → List (List ℕ) → Result Request Fault
 command_with None words = Err NoTool
-command_with (Some tool) words = formed tool (option_and_then (request_of tool) (words_read tool Anything words))
+command_with (Some form) words = formed form (option_and_then (request_of form) (words_read form Anything words))
 
 -- what the words ask for, or that they are of no form
 abbrev pub command_of : List (List ℕ) → Result Request Fault
 command_of [] = Err NoTool
-command_of (name ∷ words) = command_with (tool_named name) words
+command_of (name ∷ words) = command_with (form_named name) words
 
 -- ---- operands
 

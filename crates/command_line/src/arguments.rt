@@ -1,6 +1,6 @@
 //! What all words after a tool's name say.
-ghost use Rattle.std.specs.Prelude.{◌≡◌, OnOk};
-ghost use Rattle.command_line.specs.Forms.{nothing_spoken, after, is_set, are_once, form_of, fits};
+ghost use Rattle.std.specs.Prelude.{◌≡◌, ◌≤◌, length, true, OnOk};
+ghost use Rattle.command_line.specs.Forms.{nothing_spoken, after, is_set, are_once, fits};
 
 use crate::choice::{Choice, Setting};
 use crate::form::Form;
@@ -49,7 +49,8 @@ impl Arguments {
 
     /// Whether there are as many operands as the form takes, and each option once.
     pub fn fits(&self, form: &Form) -> bool
-        ensures { result ≡ fits (form_of form.now) self.now }
+        ensures fits { result ≡ fits form.now self.now }
+        ensures some { result ≡ true → 1 ≤ length self.now.operands }
     {
         form.fewest() <= self.operands.len()
             && self.operands.len() <= form.most()

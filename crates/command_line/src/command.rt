@@ -1,6 +1,6 @@
 //! What words ask for.
-ghost use Rattle.std.specs.Prelude.{◌≡◌, ◌≤◌, length, option_map};
-ghost use Rattle.command_line.specs.Forms.{form_of};
+ghost use Rattle.std.specs.Prelude.{◌≡◌};
+ghost use Rattle.std.specs.Option.{option_map};
 ghost use Rattle.command_line.specs.Words.{request_of, first, second};
 
 use crate::arguments::Arguments;
@@ -9,38 +9,38 @@ use crate::options::Options;
 use faults::Name;
 use std::marker::Model;
 
-/// What words ask for: a tool, its operands, as many as its form takes, and what the options say.
+/// What words ask for: a tool, its operands, one at least, and what the options say.
 #[derive(Drop)]
 pub struct Command {
-    form: Form,
+    tool: ToolName,
     operands: Vec<Name>,
     options: Options,
 }
 
 impl Model for Command {
     ghost use Rattle.std.specs.Prelude.{◌≤◌, length};
-    ghost use Rattle.command_line.specs.Forms.{form_of};
-    ghost use Rattle.command_line.specs.Words.{Request};
+    ghost use Rattle.command_line.specs.Words.{Request, with_options};
 
     ghost Value = { Request };
 
-    ghost view = { λ c. record { tool = c.form; operands = c.operands.items; options = c.options } };
+    ghost view = { λ c. with_options c.tool c.operands.items c.options };
 
-    ghost invariant = { λ c. (form_of c.form).fewest ≤ length c.operands.items };
+    ghost invariant = { λ c. 1 ≤ length c.operands.items };
 }
 
 impl Command {
     /// What arguments ask of a tool, where they are of its form.
-    pub fn of(form: Form, arguments: Arguments) -> Option<Command>
-        ensures { result ≡ request_of form arguments }
+    pub fn of(form: &Form, arguments: Arguments) -> Option<Command>
+        ensures { result ≡ request_of form.now arguments }
     {
-        if !arguments.fits(&form) {
+        if !arguments.fits(form) {
             return None;
         }
+        let tool = form.tool();
         let options = Options::of(arguments.settings())?;
         let operands = arguments.into_operands();
         Some(Command {
-            form,
+            tool,
             operands,
             options,
         })
@@ -48,15 +48,13 @@ impl Command {
 
     /// The tool.
     pub fn tool(&self) -> ToolName
-        ensures tool { result ≡ self.now.tool }
-        ensures operands { (form_of self.now.tool).fewest ≤ length self.now.operands }
+        ensures { result ≡ self.now.tool }
     {
-        self.form.tool()
+        self.tool
     }
 
     /// The first operand.
     pub fn first(&self) -> &Name
-        requires { 1 ≤ length self.now.operands }
         ensures { result.now ≡ first self.now.operands }
     {
         &self.operands[0]

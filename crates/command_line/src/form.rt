@@ -1,6 +1,6 @@
 //! Tools by their names, and the forms of the words after them.
-ghost use Rattle.std.specs.Prelude.{◌≡◌};
-ghost use Rattle.command_line.specs.Forms.{form_of, named, option_name, option_named, tool_named};
+ghost use Rattle.std.specs.Prelude.{◌≡◌, ◌≤◌};
+ghost use Rattle.command_line.specs.Forms.{form_named, named, option_name, option_named, row};
 
 use crate::choice::Choice;
 use std::marker::Model;
@@ -16,7 +16,8 @@ pub enum ToolName {
     Homchain,
 }
 
-/// A tool with its row of the table of forms, which contracts see as the tool.
+/// A row of the table of forms: a tool with its name, the fewest and the most operands, one at
+/// least, and its options.
 #[derive(Debug, Drop)]
 pub struct Form {
     tool: ToolName,
@@ -27,15 +28,14 @@ pub struct Form {
 }
 
 impl Model for Form {
-    ghost use Rattle.std.specs.Prelude.{◌≡◌};
-    ghost use Rattle.command_line.specs.declared.form.ToolName.{ToolName};
-    ghost use Rattle.command_line.specs.Forms.{form_of, Row};
+    ghost use Rattle.std.specs.Prelude.{◌≤◌};
+    ghost use Rattle.command_line.specs.Forms.{Row, row};
 
-    ghost Value = { ToolName };
+    ghost Value = { Row };
 
-    ghost view = { λ f. f.tool };
+    ghost view = { λ f. row f.tool f.name.now f.fewest f.most f.options.now };
 
-    ghost invariant = { λ f. form_of f.tool ≡ record { name = f.name.now; fewest = f.fewest; most = f.most; options = f.options.now } };
+    ghost invariant = { λ f. 1 ≤ f.fewest };
 }
 
 // The options of the tools that compute homology.
@@ -44,7 +44,7 @@ const OF_HOMOLOGY: [Choice; 2] = [Choice::Modulus, Choice::Cycles];
 impl Form {
     /// The form of the tool of this name.
     pub fn named(word: &str) -> Option<Form>
-        ensures { result ≡ tool_named word.now }
+        ensures { result ≡ form_named word.now }
     {
         match word {
             "homcubes" => Some(Form::of(ToolName::Homcubes, "homcubes", 1, 2, &OF_HOMOLOGY)),
@@ -65,8 +65,8 @@ impl Form {
         most: usize,
         options: &'static [Choice],
     ) -> Form
-        requires { form_of tool ≡ record { name = name.now; fewest = fewest; most = most; options = options.now } }
-        ensures { result ≡ tool }
+        requires { 1 ≤ fewest }
+        ensures { result ≡ row tool name.now fewest most options.now }
     {
         Form {
             tool,
@@ -79,28 +79,29 @@ impl Form {
 
     /// The tool.
     pub fn tool(&self) -> ToolName
-        ensures { result ≡ self.now }
+        ensures { result ≡ self.now.tool }
     {
         self.tool
     }
 
     /// The tool's name.
     pub fn name(&self) -> &'static str
-        ensures { result.now ≡ (form_of self.now).name }
+        ensures { result.now ≡ self.now.name }
     {
         self.name
     }
 
     /// The fewest operands.
     pub fn fewest(&self) -> usize
-        ensures { result ≡ (form_of self.now).fewest }
+        ensures fewest { result ≡ self.now.fewest }
+        ensures one { 1 ≤ self.now.fewest }
     {
         self.fewest
     }
 
     /// The most operands.
     pub fn most(&self) -> usize
-        ensures { result ≡ (form_of self.now).most }
+        ensures { result ≡ self.now.most }
     {
         self.most
     }

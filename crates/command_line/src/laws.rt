@@ -2,7 +2,6 @@
 ghost use Rattle.command_line.specs.Laws.{OptionsHaveNoOrder, ValuesAreSaidInTwoWays, WordsBehindDashesAreOperands};
 
 /// Options in any order, among themselves and among operands, say the same.
-#[tactic(auto, using(crate::proofs::Orders::options_change_places))]
 pub fn options_have_no_order()
     ensures { OptionsHaveNoOrder }
 {}

@@ -4,21 +4,20 @@ use Rattle.std.specs.Option.{option_map}
 use Rattle.std.proofs.lemmas.List.{drop_more}
 use Rattle.faults.specs.declared.fault.Fault.{Fault}
 use Rattle.faults.specs.declared.fault.Fault.TheVariants.{NotAForm, OutOfMemory}
-use Rattle.command_line.specs.declared.form.ToolName.{ToolName}
 use Rattle.command_line.specs.declared.word.Next.{Next}
 use Rattle.command_line.specs.declared.word.Said.{Said}
 use Rattle.command_line.specs.declared.word.Said.TheVariants.{Nothing, Operand, Set}
 use Rattle.command_line.specs.declared.word.WordRead.{WordRead}
-use Rattle.command_line.specs.Forms.{Spoken, spoken, form_of, word_read, also, after, at_end, word_first, words_read}
+use Rattle.command_line.specs.Forms.{Row, Spoken, spoken, word_read, also, after, at_end, word_first, words_read}
 use Rattle.command_line.specs.Words.{formed}
 
-pub formed_some : {A : Type 0} (tool : ToolName) (o : Option A) (x : A) → formed tool o ≡ Ok x → o ≡ Some x
-formed_some tool None x e = cc
-formed_some tool (Some y) x e = cc
+pub formed_some : {A : Type 0} (form : Row) (o : Option A) (x : A) → formed form o ≡ Ok x → o ≡ Some x
+formed_some form None x e = cc
+formed_some form (Some y) x e = cc
 
-formed_none : {A : Type 0} (tool : ToolName) (o : Option A) (fault : Fault) → formed tool o ≡ Err fault → (o ≡ None) × (fault ≡ NotAForm (form_of tool).name)
-formed_none tool None fault e = (refl, cc)
-formed_none tool (Some y) fault e = cc
+formed_none : {A : Type 0} (form : Row) (o : Option A) (fault : Fault) → formed form o ≡ Err fault → (o ≡ None) × (fault ≡ NotAForm form.name)
+formed_none form None fault e = (refl, cc)
+formed_none form (Some y) fault e = cc
 
 -- what was said, and then what more is said
 abbrev pub onto : Spoken → Spoken → Spoken
@@ -30,34 +29,34 @@ onto_also so_far Nothing (Some more) = refl
 onto_also so_far (Operand word) (Some more) = ap (λ (ws : List (List ℕ)). Some (record { operands = ws; settings = so_far.settings ++ more.settings })) (append_assoc so_far.operands (word ∷ []) more.operands)
 onto_also so_far (Set setting) (Some more) = ap (λ ss. Some (record { operands = so_far.operands ++ more.operands; settings = ss })) (append_assoc so_far.settings (setting ∷ []) more.settings)
 
-module _ {A : Type 0} (tool : ToolName) (next : Next) (so_far : Spoken) (words : List (String A)) (i : ℕ) (w : String A) (bytes : List ℕ) (whole : Option Spoken)
-    (l : i < length words) (is : w ≡ get_or words i w) (same : bytes ≡ string_bytes w) (invariant : option_map (onto so_far) (words_read tool next (spoken (drop i words))) ≡ whole) where
-  first_word : words_read tool next (spoken (drop i words)) ≡ word_first (word_read tool next bytes) (λ then. words_read tool then (spoken (drop (i + 1) words)))
-  first_word = ap (λ ws. words_read tool next (spoken ws)) (drop_more words i w l)
-      ∙ ap (λ b. word_first (word_read tool next b) (λ then. words_read tool then (spoken (drop (i + 1) words)))) (ap string_bytes (sym is) ∙ sym same)
+module _ {A : Type 0} (form : Row) (next : Next) (so_far : Spoken) (words : List (String A)) (i : ℕ) (w : String A) (bytes : List ℕ) (whole : Option Spoken)
+    (l : i < length words) (is : w ≡ get_or words i w) (same : bytes ≡ string_bytes w) (invariant : option_map (onto so_far) (words_read form next (spoken (drop i words))) ≡ whole) where
+  first_word : words_read form next (spoken (drop i words)) ≡ word_first (word_read form next bytes) (λ then. words_read form then (spoken (drop (i + 1) words)))
+  first_word = ap (λ ws. words_read form next (spoken ws)) (drop_more words i w l)
+      ∙ ap (λ b. word_first (word_read form next b) (λ then. words_read form then (spoken (drop (i + 1) words)))) (ap string_bytes (sym is) ∙ sym same)
 
-  pub word_added : (new : Spoken) (read : WordRead) → formed tool (word_read tool next bytes) ≡ Ok read → new ≡ after so_far read.said
-      → option_map (onto new) (words_read tool read.next (spoken (drop (i + 1) words))) ≡ whole
+  pub word_added : (new : Spoken) (read : WordRead) → formed form (word_read form next bytes) ≡ Ok read → new ≡ after so_far read.said
+      → option_map (onto new) (words_read form read.next (spoken (drop (i + 1) words))) ≡ whole
   word_added new read e n =
-      ap (λ s. option_map (onto s) (words_read tool read.next (spoken (drop (i + 1) words)))) n
-      ∙ onto_also so_far read.said (words_read tool read.next (spoken (drop (i + 1) words)))
-      ∙ sym (ap (option_map (onto so_far)) (first_word ∙ ap (λ o. word_first o (λ then. words_read tool then (spoken (drop (i + 1) words)))) (formed_some tool (word_read tool next bytes) read e)))
+      ap (λ s. option_map (onto s) (words_read form read.next (spoken (drop (i + 1) words)))) n
+      ∙ onto_also so_far read.said (words_read form read.next (spoken (drop (i + 1) words)))
+      ∙ sym (ap (option_map (onto so_far)) (first_word ∙ ap (λ o. word_first o (λ then. words_read form then (spoken (drop (i + 1) words)))) (formed_some form (word_read form next bytes) read e)))
       ∙ invariant
 
-  pub word_refused : (fault : Fault) → (formed tool (word_read tool next bytes) ≡ Err fault) ⊎ (fault ≡ OutOfMemory) → (formed tool whole ≡ Err fault) ⊎ (fault ≡ OutOfMemory)
+  pub word_refused : (fault : Fault) → (formed form (word_read form next bytes) ≡ Err fault) ⊎ (fault ≡ OutOfMemory) → (formed form whole ≡ Err fault) ⊎ (fault ≡ OutOfMemory)
   word_refused fault (inr e) = inr e
   word_refused fault (inl e) =
-      let n = formed_none tool (word_read tool next bytes) fault e in
-      let none : whole ≡ None = sym invariant ∙ ap (option_map (onto so_far)) (first_word ∙ ap (λ o. word_first o (λ then. words_read tool then (spoken (drop (i + 1) words)))) n.0) in
-      inl (ap (formed tool) none ∙ sym (ap (λ f. Err f) n.1))
+      let n = formed_none form (word_read form next bytes) fault e in
+      let none : whole ≡ None = sym invariant ∙ ap (option_map (onto so_far)) (first_word ∙ ap (λ o. word_first o (λ then. words_read form then (spoken (drop (i + 1) words)))) n.0) in
+      inl (ap (formed form) none ∙ sym (ap (λ f. Err f) n.1))
 
 onto_nothing : (so_far : Spoken) → onto so_far (record { operands = []; settings = [] }) ≡ so_far
 onto_nothing so_far = λ j. record { operands = append-nil so_far.operands j; settings = append-nil so_far.settings j }
 
-module _ {A : Type 0} (tool : ToolName) (next : Next) (so_far : Spoken) (words : List (String A)) (i : ℕ) (whole : Option Spoken)
-    (l : length words ≡ i) (invariant : option_map (onto so_far) (words_read tool next (spoken (drop i words))) ≡ whole) where
+module _ {A : Type 0} (form : Row) (next : Next) (so_far : Spoken) (words : List (String A)) (i : ℕ) (whole : Option Spoken)
+    (l : length words ≡ i) (invariant : option_map (onto so_far) (words_read form next (spoken (drop i words))) ≡ whole) where
   at_the_end : option_map (onto so_far) (at_end next) ≡ whole
-  at_the_end = let none : drop i words ≡ [] = drop_of_length-le words (omega arith) in sym (ap (λ ws. option_map (onto so_far) (words_read tool next (spoken ws))) none) ∙ invariant
+  at_the_end = let none : drop i words ≡ [] = drop_of_length-le words (omega arith) in sym (ap (λ ws. option_map (onto so_far) (words_read form next (spoken ws))) none) ∙ invariant
 
   -- a value that is missing
   pub value_missing : (v : Option Spoken) → at_end next ≡ None → whole ≡ None

@@ -1,7 +1,7 @@
 //! From words to what they ask for.
 ghost use Rattle.std.specs.Prelude.{◌≡◌};
 ghost use Rattle.command_line.specs.Forms.{spoken, words_read};
-ghost use Rattle.command_line.specs.Words.{command_of, formed, request_of, IsDue};
+ghost use Rattle.command_line.specs.Words.{command_of, formed, IsDue};
 
 use crate::word::{not_a_form, word_read};
 use command_line::{Arguments, Command, Form, Next};
@@ -19,17 +19,9 @@ pub fn command_of(alloc: Global, words: &[String]) -> Result<Command, Fault>
         return Err(Fault::NoTool);
     };
     let arguments = words_read(alloc, &form, words)?;
-    command_with(alloc, form, arguments)
-}
-
-// What arguments ask of a tool.
-fn command_with(alloc: Global, form: Form, arguments: Arguments) -> Result<Command, Fault>
-    ensures { IsDue (formed form (request_of form arguments)) result }
-{
-    let name = form.name();
-    match Command::of(form, arguments) {
+    match Command::of(&form, arguments) {
         Some(command) => Ok(command),
-        None => Err(not_a_form(alloc, name)),
+        None => Err(not_a_form(alloc, form.name())),
     }
 }
 
