@@ -1,10 +1,1 @@
-pub mod Statuses
-pub mod Forms
-pub mod Words
-pub mod Combining
-pub mod Inputs
-pub mod Refusal
-pub mod Right
-pub mod Counting
-pub mod ByDegree
-pub mod Saying
+-- What the program says is said by all_tools.

@@ -7,7 +7,7 @@ use Rattle.parsing.proofs.command.words_read.Goals as goal
 pub loop-word-preserved : goal.loop-word-preserved
 loop-word-preserved c =
     word_added c.args.form.now c.loop-word.next c.loop-word.arguments c.args.words.now c.loop-word.word-index c.word-item.result c.as_str.result.now (words_read c.args.form.now Anything (spoken c.args.words.now))
-    c.loop-word-test.true c.word-item.is c.as_str.ensures.value c.loop-word.invariant c.add.new.self c.in_ok-read.read c.in_ok-read.ensures c.in-Ok.ensures
+    c.loop-word-test.true c.word-item.is c.as_str.ensures.value c.loop-word.invariant c.add.new.self c.in_ok-read.read c.in_ok-read.ensures c.in_ok-add.ensures
 
 pub returns-in_err-read : goal.returns-in_err-read
 returns-in_err-read c =
