@@ -34,11 +34,11 @@ pub returns : goal.returns
 returns g c =
     let p = g.row.P in
     let file = c.args.file in
-    let counts = c.in_ok-dimensions.dimensions in
+    let counts = c.in_ok-dimensions-2.dimensions in
     let same : c.in_ok-log.log.complex ≡ file.complex = c.in_ok-log.ensures.complex ∙ c.in_ok-start.ensures.0 ∙ c.into_complex.ensures in
-    let complex : IsComplex p file.complex = subst (λ (K : ChainComplex). IsComplex p K) same c.in_ok-dimensions.ensures.complex in
+    let complex : IsComplex p file.complex = subst (λ (K : ChainComplex). IsComplex p K) same c.in_ok-dimensions-2.ensures.complex in
     let bases : HasBases p file.complex file.top counts =
     subst (λ (K : ChainComplex). HasBases p K file.top counts) same
-    (subst (λ (top : ℕ). HasBases p c.in_ok-log.log.complex top counts) c.top-top.ensures.value c.in_ok-dimensions.ensures.bases) in
+    (subst (λ (top : ℕ). HasBases p c.in_ok-log.log.complex top counts) c.top-top.ensures.value c.in_ok-dimensions-2.ensures.bases) in
     λ content is_file. left_out c.args.shown (IsRightFile p content counts) c.of.result c.if-shown.false
     (right_file p content file c.args.field.listed is_file c.top-top.ensures.numbered complex counts bases)

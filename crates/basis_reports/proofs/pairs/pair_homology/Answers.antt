@@ -32,6 +32,6 @@ returns-clause-right g c =
     let x = c.args.x.now.cells in
     let a = c.args.a.now.cells in
     let cells = c.in_ok-cells.field-0.cells in
-    left_out c.args.shown (IsRightPair p c.args.most x a c.in_ok-dimensions.dimensions) c.of-cycles.result c.if-shown.false
-    (right_pair p x a cells c.in_ok-cells.field-1.complex c.args.field.listed c.in_ok-cells.ensures.complex c.len-count.ensures.sorted c.args.most
-    c.in_ok-dimensions.dimensions c.in_ok-dimensions.ensures.bases)
+    left_out c.args.shown (IsRightPair p c.args.most x a c.in_ok-dimensions-2.dimensions) c.of-cycles.result c.if-shown.false
+    (right_pair p x a cells c.in_ok-cells.field-0.log.complex c.args.field.listed c.in_ok-cells.ensures.complex c.len-count.ensures.sorted c.args.most
+    c.in_ok-dimensions-2.dimensions c.in_ok-dimensions-2.ensures.bases)
