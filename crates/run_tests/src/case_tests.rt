@@ -1,5 +1,5 @@
 //! With ample memory each case is answered: every modulus, every dimension, the least and the greatest degree.
-use crate::rows::{DONE, Row, answers};
+use crate::rows::{DONE, Row, all_answer, answers};
 use field_mod::MODULI;
 use std::alloc::Global;
 use std::process::Abort;
@@ -81,10 +81,7 @@ const HOMOLOGY: [Row<'static>; 12] = [
 
 #[test]
 fn each_dimension_has_its_homology(rt: HostRuntime) -> Result<(), Fail> {
-    for row in &HOMOLOGY {
-        answers(&rt, rt.alloc(), &CUBES, row)?;
-    }
-    Ok(())
+    all_answer(&rt, rt.alloc(), &CUBES, &HOMOLOGY)
 }
 
 // A cube of each dimension with its number of axes.

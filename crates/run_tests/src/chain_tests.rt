@@ -1,5 +1,5 @@
 //! Whole runs of the tool on chain files.
-use crate::rows::{Row, answers};
+use crate::rows::{Row, all_answer};
 use faults::Status;
 use std::test::Fail;
 
@@ -229,16 +229,10 @@ const REFUSED: [Row<'static>; 20] = [
 
 #[test]
 fn chain_files_have_their_homology(rt: HostRuntime) -> Result<(), Fail> {
-    for row in &COMPLEXES {
-        answers(&rt, rt.alloc(), &FILES, row)?;
-    }
-    Ok(())
+    all_answer(&rt, rt.alloc(), &FILES, &COMPLEXES)
 }
 
 #[test]
 fn chain_files_are_refused_in_order(rt: HostRuntime) -> Result<(), Fail> {
-    for row in &REFUSED {
-        answers(&rt, rt.alloc(), &FILES, row)?;
-    }
-    Ok(())
+    all_answer(&rt, rt.alloc(), &FILES, &REFUSED)
 }

@@ -1,5 +1,5 @@
 //! Whole runs of the tool on sets and pairs.
-use crate::rows::{Row, answers};
+use crate::rows::{Row, all_answer, answers};
 use faults::Status;
 use std::test::Fail;
 
@@ -347,42 +347,27 @@ const NO_TOOLS: [&[&str]; 5] = [
 
 #[test]
 fn sets_have_their_homology(rt: HostRuntime) -> Result<(), Fail> {
-    for row in &SETS {
-        answers(&rt, rt.alloc(), &FILES, row)?;
-    }
-    Ok(())
+    all_answer(&rt, rt.alloc(), &FILES, &SETS)
 }
 
 #[test]
 fn pairs_and_moduli_have_their_homology(rt: HostRuntime) -> Result<(), Fail> {
-    for row in &PAIRS_AND_MODULI {
-        answers(&rt, rt.alloc(), &FILES, row)?;
-    }
-    Ok(())
+    all_answer(&rt, rt.alloc(), &FILES, &PAIRS_AND_MODULI)
 }
 
 #[test]
 fn cycles_are_printed_where_asked(rt: HostRuntime) -> Result<(), Fail> {
-    for row in &WITH_CYCLES {
-        answers(&rt, rt.alloc(), &FILES, row)?;
-    }
-    Ok(())
+    all_answer(&rt, rt.alloc(), &FILES, &WITH_CYCLES)
 }
 
 #[test]
 fn texts_are_refused_at_their_places(rt: HostRuntime) -> Result<(), Fail> {
-    for row in &TEXTS {
-        answers(&rt, rt.alloc(), &FILES, row)?;
-    }
-    Ok(())
+    all_answer(&rt, rt.alloc(), &FILES, &TEXTS)
 }
 
 #[test]
 fn failed_reads_and_writes_are_told(rt: HostRuntime) -> Result<(), Fail> {
-    for row in &FAULTS {
-        answers(&rt, rt.alloc(), &FILES, row)?;
-    }
-    Ok(())
+    all_answer(&rt, rt.alloc(), &FILES, &FAULTS)
 }
 
 #[test]

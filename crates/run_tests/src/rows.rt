@@ -70,6 +70,19 @@ pub fn answers<R: Threads + Abort>(
     Ok(())
 }
 
+/// Each of the rows, over the same files.
+pub fn all_answer<R: Threads + Abort>(
+    rt: &R,
+    alloc: Global,
+    named: &[(&str, &str)],
+    rows: &[Row<'_>],
+) -> Result<(), Fail> {
+    for row in rows {
+        answers(rt, alloc, named, row)?;
+    }
+    Ok(())
+}
+
 /// The status of a run of a tool over one file.
 pub fn status_over<R: Threads>(
     rt: &R,

@@ -1,5 +1,5 @@
 //! Whole runs of the tools on sets.
-use crate::rows::{Row, answers};
+use crate::rows::{Row, all_answer};
 use faults::Status;
 use std::test::Fail;
 
@@ -154,16 +154,10 @@ const REFUSED: [Row<'static>; 15] = [
 
 #[test]
 fn sets_are_made_and_written(rt: HostRuntime) -> Result<(), Fail> {
-    for row in &SETS {
-        answers(&rt, rt.alloc(), &FILES, row)?;
-    }
-    Ok(())
+    all_answer(&rt, rt.alloc(), &FILES, &SETS)
 }
 
 #[test]
 fn sets_are_refused_in_order(rt: HostRuntime) -> Result<(), Fail> {
-    for row in &REFUSED {
-        answers(&rt, rt.alloc(), &FILES, row)?;
-    }
-    Ok(())
+    all_answer(&rt, rt.alloc(), &FILES, &REFUSED)
 }

@@ -1,1 +1,0 @@
--- What the program says is said by all_tools.
