@@ -63,7 +63,7 @@ pub two_ways : (name : List ℕ) (form : Row) → form_named name ≡ Some form
 two_ways name form named before after so_far w choice value takes plain =
     ap (λ n. command_with n (before ++ (option_name choice ++ codes "=" ++ value) ∷ after)) named
     ∙ ap (λ r. formed form (option_and_then (request_of form) r))
-        (behind_whole form before ((option_name choice ++ codes "=" ++ value) ∷ after) so_far w
-        ∙ ap (option_map (onto so_far)) (choice_ways form value after plain choice takes)
-        ∙ sym (behind_whole form before (option_name choice ∷ value ∷ after) so_far w))
+    (behind_whole form before ((option_name choice ++ codes "=" ++ value) ∷ after) so_far w
+    ∙ ap (option_map (onto so_far)) (choice_ways form value after plain choice takes)
+    ∙ sym (behind_whole form before (option_name choice ∷ value ∷ after) so_far w))
     ∙ sym (ap (λ n. command_with n (before ++ option_name choice ∷ value ∷ after)) named)

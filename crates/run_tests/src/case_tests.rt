@@ -27,13 +27,47 @@ fn modulus_is_answered<R: Threads + Abort>(rt: &R, alloc: Global, p: u16) -> Res
     let number = format!(in alloc; "{p}")?;
     let words = ["homcubes", "ring", "--mod", number.as_str()];
     let out = format!(in alloc; "H_0 = Z_{p}\nH_1 = Z_{p}\nH_2 = 0\n")?;
-    answers(rt, alloc, &FILES, &Row { words: &words, out: &out, ..DONE })?;
-    let words = ["homcubes", "middle", "ring", "--cycles", "--mod", number.as_str()];
+    answers(
+        rt,
+        alloc,
+        &FILES,
+        &Row {
+            words: &words,
+            out: &out,
+            ..DONE
+        },
+    )?;
+    let words = [
+        "homcubes",
+        "middle",
+        "ring",
+        "--cycles",
+        "--mod",
+        number.as_str(),
+    ];
     let out = format!(in alloc; "H_0 = 0\nH_1 = 0\nH_2 = Z_{p}\nz_2_1 = 1 * [(1 1)(2 2)]\n")?;
-    answers(rt, alloc, &FILES, &Row { words: &words, out: &out, ..DONE })?;
+    answers(
+        rt,
+        alloc,
+        &FILES,
+        &Row {
+            words: &words,
+            out: &out,
+            ..DONE
+        },
+    )?;
     let words = ["homchain", "circle", "--mod", number.as_str()];
     let out = format!(in alloc; "H_0 = Z_{p}\nH_1 = Z_{p}\n")?;
-    answers(rt, alloc, &FILES, &Row { words: &words, out: &out, ..DONE })
+    answers(
+        rt,
+        alloc,
+        &FILES,
+        &Row {
+            words: &words,
+            out: &out,
+            ..DONE
+        },
+    )
 }
 
 // A cube of each dimension, and its boundary.
@@ -43,7 +77,10 @@ const CUBES: [(&str, &str); 9] = [
     ("3", "(0 0 0)"),
     ("4", "(0 0 0 0)"),
     ("of 1", "[(0)(0)] [(1)(1)]"),
-    ("of 2", "[(0 0)(0 1)] [(1 0)(1 1)] [(0 0)(1 0)] [(0 1)(1 1)]"),
+    (
+        "of 2",
+        "[(0 0)(0 1)] [(1 0)(1 1)] [(0 0)(1 0)] [(0 1)(1 1)]",
+    ),
     (
         "of 3",
         "[(0 0 0)(0 1 1)] [(1 0 0)(1 1 1)] [(0 0 0)(1 0 1)] [(0 1 0)(1 1 1)] [(0 0 0)(1 1 0)] [(0 0 1)(1 1 1)]",
@@ -57,16 +94,56 @@ const CUBES: [(&str, &str); 9] = [
 ];
 
 const HOMOLOGY: [Row<'static>; 12] = [
-    Row { words: &["homcubes", "1"], out: "H_0 = Z_2\nH_1 = 0\n", ..DONE },
-    Row { words: &["homcubes", "2"], out: "H_0 = Z_2\nH_1 = 0\nH_2 = 0\n", ..DONE },
-    Row { words: &["homcubes", "3"], out: "H_0 = Z_2\nH_1 = 0\nH_2 = 0\nH_3 = 0\n", ..DONE },
-    Row { words: &["homcubes", "4"], out: "H_0 = Z_2\nH_1 = 0\nH_2 = 0\nH_3 = 0\nH_4 = 0\n", ..DONE },
-    Row { words: &["homcubes", "of 1"], out: "H_0 = Z_2^2\nH_1 = 0\n", ..DONE },
-    Row { words: &["homcubes", "of 2"], out: "H_0 = Z_2\nH_1 = Z_2\nH_2 = 0\n", ..DONE },
-    Row { words: &["homcubes", "of 3"], out: "H_0 = Z_2\nH_1 = 0\nH_2 = Z_2\nH_3 = 0\n", ..DONE },
-    Row { words: &["homcubes", "of 4"], out: "H_0 = Z_2\nH_1 = 0\nH_2 = 0\nH_3 = Z_2\nH_4 = 0\n", ..DONE },
-    Row { words: &["homcubes", "1", "of 1", "--cycles"], out: "H_0 = 0\nH_1 = Z_2\nz_1_1 = 1 * [(0)(1)]\n", ..DONE },
-    Row { words: &["homcubes", "2", "of 2", "--cycles"], out: "H_0 = 0\nH_1 = 0\nH_2 = Z_2\nz_2_1 = 1 * [(0 0)(1 1)]\n", ..DONE },
+    Row {
+        words: &["homcubes", "1"],
+        out: "H_0 = Z_2\nH_1 = 0\n",
+        ..DONE
+    },
+    Row {
+        words: &["homcubes", "2"],
+        out: "H_0 = Z_2\nH_1 = 0\nH_2 = 0\n",
+        ..DONE
+    },
+    Row {
+        words: &["homcubes", "3"],
+        out: "H_0 = Z_2\nH_1 = 0\nH_2 = 0\nH_3 = 0\n",
+        ..DONE
+    },
+    Row {
+        words: &["homcubes", "4"],
+        out: "H_0 = Z_2\nH_1 = 0\nH_2 = 0\nH_3 = 0\nH_4 = 0\n",
+        ..DONE
+    },
+    Row {
+        words: &["homcubes", "of 1"],
+        out: "H_0 = Z_2^2\nH_1 = 0\n",
+        ..DONE
+    },
+    Row {
+        words: &["homcubes", "of 2"],
+        out: "H_0 = Z_2\nH_1 = Z_2\nH_2 = 0\n",
+        ..DONE
+    },
+    Row {
+        words: &["homcubes", "of 3"],
+        out: "H_0 = Z_2\nH_1 = 0\nH_2 = Z_2\nH_3 = 0\n",
+        ..DONE
+    },
+    Row {
+        words: &["homcubes", "of 4"],
+        out: "H_0 = Z_2\nH_1 = 0\nH_2 = 0\nH_3 = Z_2\nH_4 = 0\n",
+        ..DONE
+    },
+    Row {
+        words: &["homcubes", "1", "of 1", "--cycles"],
+        out: "H_0 = 0\nH_1 = Z_2\nz_1_1 = 1 * [(0)(1)]\n",
+        ..DONE
+    },
+    Row {
+        words: &["homcubes", "2", "of 2", "--cycles"],
+        out: "H_0 = 0\nH_1 = 0\nH_2 = Z_2\nz_2_1 = 1 * [(0 0)(1 1)]\n",
+        ..DONE
+    },
     Row {
         words: &["homcubes", "3", "of 3", "--cycles"],
         out: "H_0 = 0\nH_1 = 0\nH_2 = 0\nH_3 = Z_2\nz_3_1 = 1 * [(0 0 0)(1 1 1)]\n",
@@ -104,13 +181,68 @@ fn sets_are_answered<R: Threads + Abort>(
 ) -> Result<(), Fail> {
     let head = format!(in alloc; "dimension {axes}\n")?;
     let cube = lines(alloc, &head, axes, &[("0", "1", true)])?;
-    answers(rt, alloc, &CUBES, &Row { words: &["cubunion", name, "empty"], out: &cube, ..DONE })?;
-    answers(rt, alloc, &CUBES, &Row { words: &["cubinter", name, name], out: &cube, ..DONE })?;
-    answers(rt, alloc, &CUBES, &Row { words: &["cubinter", "empty", name], out: &head, ..DONE })?;
-    let near = lines(alloc, &head, axes, &[("-1", "0", true), ("0", "1", true), ("1", "2", true)])?;
-    answers(rt, alloc, &CUBES, &Row { words: &["cubnbhd", name], out: &near, ..DONE })?;
-    let cells = lines(alloc, &head, axes, &[("0", "0", false), ("0", "1", true), ("1", "1", false)])?;
-    answers(rt, alloc, &CUBES, &Row { words: &["cubcells", name], out: &cells, ..DONE })
+    answers(
+        rt,
+        alloc,
+        &CUBES,
+        &Row {
+            words: &["cubunion", name, "empty"],
+            out: &cube,
+            ..DONE
+        },
+    )?;
+    answers(
+        rt,
+        alloc,
+        &CUBES,
+        &Row {
+            words: &["cubinter", name, name],
+            out: &cube,
+            ..DONE
+        },
+    )?;
+    answers(
+        rt,
+        alloc,
+        &CUBES,
+        &Row {
+            words: &["cubinter", "empty", name],
+            out: &head,
+            ..DONE
+        },
+    )?;
+    let near = lines(
+        alloc,
+        &head,
+        axes,
+        &[("-1", "0", true), ("0", "1", true), ("1", "2", true)],
+    )?;
+    answers(
+        rt,
+        alloc,
+        &CUBES,
+        &Row {
+            words: &["cubnbhd", name],
+            out: &near,
+            ..DONE
+        },
+    )?;
+    let cells = lines(
+        alloc,
+        &head,
+        axes,
+        &[("0", "0", false), ("0", "1", true), ("1", "1", false)],
+    )?;
+    answers(
+        rt,
+        alloc,
+        &CUBES,
+        &Row {
+            words: &["cubcells", name],
+            out: &cells,
+            ..DONE
+        },
+    )
 }
 
 // The corners of a cell, as far as its axes were chosen, and whether it is full along them.
@@ -123,14 +255,13 @@ struct Corners {
 
 // A line for each cell whose ends along each axis are among these, in their order. With all ends
 // full the cell is written by its lower corner.
-fn lines(
-    alloc: Global,
-    head: &str,
-    axes: u8,
-    ends: &[(&str, &str, bool)],
-) -> Result<String, Fail> {
+fn lines(alloc: Global, head: &str, axes: u8, ends: &[(&str, &str, bool)]) -> Result<String, Fail> {
     let mut cells = Vec::new(alloc);
-    cells.push(Corners { lower: String::new(alloc), upper: String::new(alloc), full: true })?;
+    cells.push(Corners {
+        lower: String::new(alloc),
+        upper: String::new(alloc),
+        full: true,
+    })?;
     for axis in 0..axes {
         let space = if axis == 0 { "" } else { " " };
         let mut longer = Vec::new(alloc);
@@ -178,8 +309,16 @@ fn degrees_are_answered<R: Threads + Abort>(rt: &R, alloc: Global, top: u8) -> R
         cycles.push_str(&format!(in alloc; "z_{degree}_1 = 1 * #1\n")?)?;
     }
     let files = [("degrees", text.as_str())];
-    let row = Row { words: &["homchain", "degrees"], out: &dimensions, ..DONE };
+    let row = Row {
+        words: &["homchain", "degrees"],
+        out: &dimensions,
+        ..DONE
+    };
     answers(rt, alloc, &files, &row)?;
-    let row = Row { words: &["homchain", "degrees", "--cycles"], out: &cycles, ..DONE };
+    let row = Row {
+        words: &["homchain", "degrees", "--cycles"],
+        out: &cycles,
+        ..DONE
+    };
     answers(rt, alloc, &files, &row)
 }

@@ -59,8 +59,10 @@ fn cubes_apart(alloc: Global, count: u32, more: &[u8]) -> Result<Vec<u8>, Fail> 
 #[test]
 fn the_limit_of_cells_is_exact(rt: HostRuntime) -> Result<(), Fail> {
     let alloc = rt.alloc();
-    let at = "[(0 9 0 0)(0 10 1 1)] [(2 9 0 0)(2 9 1 1)] [(4 9 0 0)(4 9 0 1)] [(6 9 0 0)(6 9 0 1)] [(8 9 0 0)(8 9 0 0)]";
-    let past = "[(0 9 0 0)(0 10 1 1)] [(2 9 0 0)(2 9 1 1)] [(4 9 0 0)(4 9 0 1)] [(6 9 0 0)(6 9 0 1)] [(8 9 0 0)(8 9 0 0)] \
+    let at =
+        "[(0 9 0 0)(0 10 1 1)] [(2 9 0 0)(2 9 1 1)] [(4 9 0 0)(4 9 0 1)] [(6 9 0 0)(6 9 0 1)] [(8 9 0 0)(8 9 0 0)]";
+    let past =
+        "[(0 9 0 0)(0 10 1 1)] [(2 9 0 0)(2 9 1 1)] [(4 9 0 0)(4 9 0 1)] [(6 9 0 0)(6 9 0 1)] [(8 9 0 0)(8 9 0 0)] \
         [(9 9 0 0)(9 9 0 0)]";
     for (more, wanted) in [(at, Status::Done), (past, Status::Limit)] {
         let text = cubes_apart(alloc, 51_781, more.as_bytes())?;
@@ -73,7 +75,10 @@ fn the_limit_of_cells_is_exact(rt: HostRuntime) -> Result<(), Fail> {
 #[test]
 fn the_limit_of_coordinates_is_exact(rt: HostRuntime) -> Result<(), Fail> {
     let alloc = rt.alloc();
-    for (text, wanted) in [("(1073741823)", Status::Done), ("(1073741824)", Status::Limit)] {
+    for (text, wanted) in [
+        ("(1073741823)", Status::Done),
+        ("(1073741824)", Status::Limit),
+    ] {
         let text = Vec::from_slice(alloc, text.as_bytes())?;
         let status = status_over(&rt, alloc, &["cubnbhd", "far"], "far", text)?;
         assert_eq!(rt; status, wanted);

@@ -97,7 +97,5 @@ pub fn status_over<R: Threads>(
     let mut files = MemFiles::of(alloc, held, Vec::new(alloc));
     let mut out = MemSink::of(alloc, Vec::new(alloc), 1_000_000);
     let mut err = MemSink::of(alloc, Vec::new(alloc), 1000);
-    Ok(run(
-        rt, alloc, &words, &mut files, &mut out, &mut err, &OpenGate,
-    ))
+    Ok(run(rt, alloc, &words, &mut files, &mut out, &mut err, &OpenGate))
 }
