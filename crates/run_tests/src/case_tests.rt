@@ -246,15 +246,15 @@ fn sets_are_answered<R: Threads + Abort>(
 }
 
 // The corners of a cell, as far as its axes were chosen, and whether it is full along them.
-#[derive(Drop)]
+#[derive(Drop, PartialEq, Eq, PartialOrd, Ord)]
 struct Corners {
     lower: String,
     upper: String,
     full: bool,
 }
 
-// A line for each cell whose ends along each axis are among these, in their order. With all ends
-// full the cell is written by its lower corner.
+// A line for each cell whose ends along each axis are among these, by its lower corner and then its
+// upper one. With all ends full the cell is written by its lower corner.
 fn lines(alloc: Global, head: &str, axes: u8, ends: &[(&str, &str, bool)]) -> Result<String, Fail> {
     let mut cells = Vec::new(alloc);
     cells.push(Corners {
@@ -276,6 +276,7 @@ fn lines(alloc: Global, head: &str, axes: u8, ends: &[(&str, &str, bool)]) -> Re
         }
         cells = longer;
     }
+    cells.sort()?;
     let mut text = String::from_str(alloc, head)?;
     for cell in &cells {
         let line = if cell.full {
