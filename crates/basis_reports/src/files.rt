@@ -10,12 +10,13 @@ use crate::naming::InDegrees;
 use algebraic_reduction::Log;
 use chain_files::ChainFile;
 use field_mod::Field;
-use homology_basis::basis;
+use homology_basis::cycle_basis;
 use report::{Cycles, Dimensions};
 use std::alloc::{AllocError as NoMemory, Global};
 
-/// The dimensions of the homology of the complex of a file, and the cycles of a basis where they are shown, by degree from 0
-/// to the greatest. Their terms name generators by their numbers in the degree.
+/// The dimensions of the homology of the complex of a file, and the cycles of a basis where they
+/// are shown, by degree from 0 to the greatest. Their terms name generators by their numbers in the
+/// degree.
 pub fn file_homology<const P: u16>(
     alloc: Global,
     field: Field<P>,
@@ -29,7 +30,7 @@ pub fn file_homology<const P: u16>(
     let numbers = InDegrees::of(file.counts_below(alloc)?);
     let log = Log::start(alloc, file.into_complex())?.reduce_all(field)?;
     if shown {
-        let basis = basis(alloc, field, log)?;
+        let basis = cycle_basis(alloc, field, log)?;
         let (dimensions, cycles) = cycles_by_degree(alloc, &numbers, &basis, top)?;
         return Ok((dimensions, cycles));
     }

@@ -5,16 +5,16 @@ ghost use Rattle.basis_reports.specs.Right.{IsRightPair, AreAsShown};
 
 use crate::bases::cycles_by_degree;
 use crate::dimensions::dimensions_of;
-use cell_complex::CellsFault;
-use cell_complex::CELLS;
-use field_mod::Field;
+use cell_complex::{CELLS, CellsFault};
 use cube_sets::CubeSet;
-use homology_basis::{Prepared, basis, prepare};
+use field_mod::Field;
+use homology_basis::{Prepared, cycle_basis, prepare};
 use report::{Cycles, PairReport};
 use std::alloc::Global;
 
-/// The dimensions of the homology of the pair of x and a, and the cycles of a basis where they are shown, by degree from 0
-/// to `most`. `TooManyCells` comes exactly where the two sets have together more than `CELLS` cells.
+/// The dimensions of the homology of the pair of x and a, and the cycles of a basis where they are
+/// shown, by degree from 0 to `most`. `TooManyCells` comes exactly where the two sets have together
+/// more than `CELLS` cells.
 pub fn pair_homology<const P: u16>(
     alloc: Global,
     field: Field<P>,
@@ -23,15 +23,17 @@ pub fn pair_homology<const P: u16>(
     most: u8,
     shown: bool,
 ) -> Result<PairReport, CellsFault>
-    ensures right { IfOk result (λ pair. AreAsShown shown (IsRightPair P most x.now.cells a.now.cells pair.dimensions) pair.cycles) }
+    ensures right { IfOk result (λ pair.
+        AreAsShown shown (IsRightPair P most x.now.cells a.now.cells pair.dimensions) pair.cycles) }
     ensures few { OnOk result (cell_count (x.now.cells ++ a.now.cells) ≤ CELLS) }
-    ensures many { result ≡ Err CellsFault.TooManyCells → CELLS < cell_count (x.now.cells ++ a.now.cells) }
+    ensures many { result ≡ Err CellsFault.TooManyCells
+        → CELLS < cell_count (x.now.cells ++ a.now.cells) }
 {
     let Prepared { cells, log } = prepare(alloc, field, x, a)?;
     // Its clauses say that the cells are in order.
     let _count = cells.len();
     if shown {
-        let basis = basis(alloc, field, log)?;
+        let basis = cycle_basis(alloc, field, log)?;
         let (dimensions, cycles) = cycles_by_degree(alloc, &cells, &basis, most)?;
         return Ok(PairReport { dimensions, cycles });
     }

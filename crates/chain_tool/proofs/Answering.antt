@@ -43,8 +43,11 @@ module _ (job : ChainJob) (old new : Seen) where
         → IfOk result (λ text. text ≡ report_text (Chain dimensions cycles) printed) → IfErr result (λ fault. fault ≡ OutOfMemory) → Answers (chain_job job) old new result
     unfolding chain_job
     complex_answered content dimensions cycles printed (Ok t) is (all, right, same) e text_is err = record {
-      right = (content, ((loaded (Ok content) is tt).value, (λ fault r. r)),
-          (dimensions, all, right, text_is ∙ ap (report_text (Chain dimensions cycles)) e ∙ same_lines number_text dimensions (shown_of job) cycles all same));
+      right = (
+        content,
+        ((loaded (Ok content) is tt).value, (λ fault r. r)),
+        (dimensions, all, right, text_is ∙ ap (report_text (Chain dimensions cycles)) e ∙ same_lines number_text dimensions (shown_of job) cycles all same),
+      );
       fault = tt;
       given = h.given;
       left = h.holds;

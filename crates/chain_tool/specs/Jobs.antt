@@ -5,7 +5,7 @@ use Rattle.faults.specs.declared.fault.Fault.{Fault}
 use Rattle.report.specs.declared.reports.Report.TheVariants.{Chain}
 use Rattle.report.specs.declared.reports.Shown.{Shown}
 use Rattle.report.specs.ReportText.{report_text}
-use Rattle.basis_reports.specs.Right.{IsRightFile}
+use Rattle.basis_reports.specs.Right.{CyclesOver, IsRightFile}
 use Rattle.loading.specs.Readings.{read_bytes}
 use Rattle.loading.specs.Jobs.{Job}
 use Rattle.chain_tool.specs.Contents.{IsContentIn}
@@ -15,10 +15,12 @@ use Rattle.chain_tool.specs.declared.homchain.ChainJob.{ChainJob}
 abbrev pub RefusesNothing : Content → Fault → Type 0
 RefusesNothing content fault = ⊥
 
--- the text of a report on the homology of the complex; where no cycles are shown, the report has them too
+-- the text of a report on the homology of the complex; also where no cycles are shown, the report
+-- has them
 abbrev pub IsChainText : Shown → Content → List ℕ → Type 0
-IsChainText shown content text = (dimensions : List ℕ) × (cycles : List (List (List (ℕ × ℕ))))
-    × IsRightFile shown.modulus content dimensions cycles × (text ≡ report_text (Chain dimensions cycles) shown)
+IsChainText shown content text = (dimensions : List ℕ) × (cycles : CyclesOver ℕ)
+    × IsRightFile shown.modulus content dimensions cycles
+    × (text ≡ report_text (Chain dimensions cycles) shown)
 
 -- how the report is printed
 abbrev pub shown_of : ChainJob → Shown

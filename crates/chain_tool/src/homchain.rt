@@ -1,11 +1,10 @@
 //! The tool `homchain`: the homology of the complex of a chain file.
-ghost use Rattle.std.specs.Prelude.{◌≡◌, ◌⊎◌, IfOk, IfErr, Ok, Err};
-ghost use Rattle.faults.specs.declared.fault.Fault.TheVariants.{OutOfMemory};
+ghost use Rattle.std.specs.Prelude.{◌≡◌, IfOk, IfErr, Ok};
 ghost use Rattle.chain_files.specs.Content.{Content};
 ghost use Rattle.chain_files.specs.Complexes.{IsFileComplex};
 ghost use Rattle.basis_reports.specs.Right.{IsRightFile, AreAsShown};
 ghost use Rattle.loading.specs.Jobs.{Answers};
-ghost use Rattle.chain_tool.specs.Contents.{IsContentOf};
+ghost use Rattle.chain_tool.specs.Contents.{IsContentOf, IsRefusal};
 ghost use Rattle.chain_tool.specs.Jobs.{chain_job, shown_of};
 
 use crate::refusals::{chain_fault, not_complex};
@@ -55,16 +54,17 @@ pub fn homology_of_file<F: Files>(
     answer_of(alloc, &Report::Chain { dimensions, cycles }, &job.shown())
 }
 
-// The homology of the complex of a text: its dimensions, and the cycles of a basis where they are printed.
+// The homology of the complex of a text: its dimensions, and the cycles of a basis where they are
+// printed.
 fn homology_of_text(
     alloc: Global,
     job: &ChainJob,
     bytes: Vec<u8>,
 ) -> Result<(Dimensions, Cycles<u32>), Fault>
-    ensures right { IfOk result (λ made. (content : Content) × IsContentOf job.now.modulus job.now.file bytes.items (Ok content)
+    ensures right { IfOk result (λ made. (content : Content)
+        × IsContentOf job.now.modulus job.now.file bytes.items (Ok content)
         × AreAsShown job.now.cycles (IsRightFile job.now.modulus content made.0) made.1) }
-    ensures fault { IfErr result (λ fault.
-        IsContentOf job.now.modulus job.now.file bytes.items (Err fault) ⊎ (fault ≡ OutOfMemory)) }
+    ensures fault { IfErr result (IsRefusal job.now.modulus job.now.file bytes.items) }
 {
     by_modulus!(job.modulus.number(), field => homology_over(alloc, field, job, bytes))
 }
@@ -76,9 +76,10 @@ fn homology_over<const P: u16>(
     job: &ChainJob,
     bytes: Vec<u8>,
 ) -> Result<(Dimensions, Cycles<u32>), Fault>
-    ensures right { IfOk result (λ made. (content : Content) × IsContentOf P job.now.file bytes.items (Ok content)
+    ensures right { IfOk result (λ made. (content : Content)
+        × IsContentOf P job.now.file bytes.items (Ok content)
         × AreAsShown job.now.cycles (IsRightFile P content made.0) made.1) }
-    ensures fault { IfErr result (λ fault. IsContentOf P job.now.file bytes.items (Err fault) ⊎ (fault ≡ OutOfMemory)) }
+    ensures fault { IfErr result (IsRefusal P job.now.file bytes.items) }
 {
     let file = complex_of(alloc, field, &job.file, &bytes)?;
     drop(bytes);
@@ -93,9 +94,9 @@ fn complex_of<const P: u16>(
     name: &Name,
     bytes: &[u8],
 ) -> Result<ChainFile<P>, Fault>
-    ensures file { IfOk result (λ file. (content : Content) × IsContentOf P name.now bytes.now (Ok content)
-        × IsFileComplex P content file) }
-    ensures fault { IfErr result (λ fault. IsContentOf P name.now bytes.now (Err fault) ⊎ (fault ≡ OutOfMemory)) }
+    ensures file { IfOk result (λ file. (content : Content)
+        × IsContentOf P name.now bytes.now (Ok content) × IsFileComplex P content file) }
+    ensures fault { IfErr result (IsRefusal P name.now bytes.now) }
 {
     match read_complex(alloc, field, bytes) {
         Ok(file) => Ok(file),

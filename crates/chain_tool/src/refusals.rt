@@ -15,7 +15,8 @@ pub fn not_complex(
     at: u32,
     value: u16,
 ) -> Fault
-    ensures { (result ≡ Fault.NotComplex name.now degree generator value at) ⊎ (result ≡ Fault.OutOfMemory) }
+    ensures { (result ≡ Fault.NotComplex name.now degree generator value at)
+        ⊎ (result ≡ Fault.OutOfMemory) }
 {
     match name.copy(alloc) {
         Ok(name) => Fault::NotComplex {
@@ -29,7 +30,8 @@ pub fn not_complex(
     }
 }
 
-/// The refusal of a text: its place and cause, but too many generators or terms are told as the limit that they pass.
+/// The refusal of a text: its place and cause, but too many generators or terms are told as the
+/// limit that they pass.
 pub fn chain_fault(alloc: Global, name: &Name, place: u64, cause: ChainCause) -> Fault
     ensures { (result ≡ chain_fault name.now place cause) ⊎ (result ≡ Fault.OutOfMemory) }
 {

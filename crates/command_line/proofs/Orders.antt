@@ -1,5 +1,5 @@
 -- Options that change places.
-use Rattle.std.proofs.Common.{◌≡◌, ℕ, Bool, true, false, cond, ◌||◌, ◌&&◌, not, List, [], ◌∷◌, ◌++◌, Option, None, Some, Ok, refl, sym, ap, ◌∙◌, subst}
+use Rattle.std.proofs.Common.{◌≡◌, ℕ, Bool, true, false, cond, ◌||◌, ◌&&◌, not, List, [], ◌∷◌, ◌++◌, Option, None, Some, refl, sym, ap, ◌∙◌}
 use Rattle.std.specs.Prelude.{nat_le, length}
 use Rattle.std.specs.Option.{option_map, option_and_then}
 use Rattle.command_line.specs.declared.choice.Choice.{Choice}
@@ -7,7 +7,7 @@ use Rattle.command_line.specs.declared.choice.Choice.TheVariants.{Modulus, Cycle
 use Rattle.command_line.specs.declared.choice.Setting.{Setting}
 use Rattle.command_line.specs.declared.word.Next.TheVariants.{Anything}
 use Rattle.command_line.specs.Forms.{Row, Spoken, form_named, same_choice, is_set, are_once, words_read}
-use Rattle.command_line.specs.Words.{modulus_of, modulus_in, with_modulus, options_in, with_options, chosen_of, request_of, formed, command_with, command_of}
+use Rattle.command_line.specs.Words.{modulus_of, modulus_in, with_modulus, with_options, chosen_of, request_of, formed, command_with, command_of}
 use Rattle.command_line.specs.Laws.{AreWhole}
 use Rattle.command_line.proofs.Wholes.{onto, behind_whole}
 

@@ -1,10 +1,10 @@
 -- The first entry of a list with a name, and whether each entry of a list stands once, entry by entry.
-use Rattle.std.proofs.Common.{◌≡◌, ℕ, zero, suc, ◌+◌, ◌<◌, Bool, true, false, cond, ◌||◌, ◌-◌, List, [], ◌∷◌, length, get_or, drop, take, length-drop, Some, refl, sym, ap, ◌∙◌, arith, eqb, eq-eqb, decimal, bytes_eq}
+use Rattle.std.proofs.Common.{◌≡◌, ℕ, zero, suc, ◌+◌, ◌<◌, Bool, true, false, cond, ◌||◌, ◌-◌, List, [], ◌∷◌, length, get_or, drop, take, length-drop, refl, sym, ap, ◌∙◌, arith, eqb, eq-eqb}
 use Rattle.std.specs.List.{list_any}
 use Rattle.std.proofs.lemmas.List.{drop_more, take_all}
 use Rattle.command_line.specs.declared.choice.Setting.{Setting}
 use Rattle.command_line.specs.declared.choice.Choice.{Choice}
-use Rattle.command_line.specs.Forms.{named, is_set, are_once}
+use Rattle.command_line.specs.Forms.{is_set, are_once}
 use Rattle.command_line.specs.Words.{modulus_of, modulus_in}
 
 pub listed_at : (ns : List ℕ) (i : ℕ) → i < length ns → list_any (λ q. eqb q (get_or ns i 0)) ns ≡ true

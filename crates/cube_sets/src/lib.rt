@@ -12,4 +12,5 @@ mod spread;
 
 pub use cube_set::{CubeSet, are_members};
 pub use fault::{CUBES, SetFault};
-pub use laws::{cells_are_faces, neighbours_meet};
+pub use laws::{cells_are_faces, limit_is_of_the_formats, neighbours_meet};
+pub use sorted::sort_distinct;

@@ -7,7 +7,7 @@ ghost use Rattle.elem_cubes.specs.Cells.{is_wide, is_file_factor};
 ghost use Rattle.elem_cubes.specs.Order.{cell_cmp};
 ghost use Rattle.elem_cubes.specs.Walks.{factor_at};
 ghost use Rattle.cube_sets.specs.Sorted.{union_of};
-ghost use Rattle.cube_sets.specs.Changes.{changed_one, changed, spread_once, spread};
+ghost use Rattle.cube_sets.specs.Changes.{changed_one, changed, changed_both, spread_once, spread};
 
 use crate::change::{Change, changed_cell};
 use crate::sorted::union;
@@ -67,8 +67,10 @@ fn both_changed(
 ) -> Result<Option<Vec<Cell>>, AllocError>
     requires sorted { IsStrictlySortedBy cell_cmp cells.now }
     requires range { IsTrue (list_all (list_all is_file_factor) cells.now) }
-    ensures all { IfOk result (λ all. IfSome all (λ all. all.items ≡ union_of cell_cmp (changed changes.0 axis cells.now) (changed changes.1 axis cells.now))) }
-    ensures more { IfOk result (λ all. IfNone all (limit < length (union_of cell_cmp (changed changes.0 axis cells.now) (changed changes.1 axis cells.now)))) }
+    ensures all { IfOk result (λ all. IfSome all (λ all.
+        all.items ≡ changed_both changes.0 changes.1 axis cells.now)) }
+    ensures more { IfOk result (λ all. IfNone all
+        (limit < length (changed_both changes.0 changes.1 axis cells.now))) }
 {
     let first = all_changed(alloc, cells, axis, changes.0)?;
     let second = all_changed(alloc, cells, axis, changes.1)?;
@@ -86,8 +88,10 @@ fn spread_once(
 ) -> Result<Option<Vec<Cell>>, AllocError>
     requires sorted { IsStrictlySortedBy cell_cmp cells.now }
     requires range { IsTrue (list_all (list_all is_file_factor) cells.now) }
-    ensures all { IfOk result (λ all. IfSome all (λ all. (all.items ≡ spread_once changes.0 changes.1 axis cells.now) × (vec_len all ≤ limit))) }
-    ensures more { IfOk result (λ all. IfNone all (limit < length (spread_once changes.0 changes.1 axis cells.now))) }
+    ensures all { IfOk result (λ all. IfSome all (λ all.
+        (all.items ≡ spread_once changes.0 changes.1 axis cells.now) × (vec_len all ≤ limit))) }
+    ensures more { IfOk result (λ all. IfNone all
+        (limit < length (spread_once changes.0 changes.1 axis cells.now))) }
 {
     match both_changed(alloc, cells, axis, changes, limit)? {
         Some(changed) => union(alloc, cells, &changed, limit),
@@ -105,9 +109,12 @@ pub(crate) fn spread(
     limit: usize,
 ) -> Result<Option<Vec<Cell>>, AllocError>
     requires sorted { IsStrictlySortedBy cell_cmp cells.now }
-    requires range { IsTrue (list_all (list_all is_file_factor) (spread changes.0 changes.1 axes cells.now)) }
-    ensures all { IfOk result (λ all. IfSome all (λ all. (all.items ≡ spread changes.0 changes.1 axes cells.now) × (vec_len all ≤ limit))) }
-    ensures more { IfOk result (λ all. IfNone all (limit < length (spread changes.0 changes.1 axes cells.now))) }
+    requires range { IsTrue (list_all (list_all is_file_factor)
+        (spread changes.0 changes.1 axes cells.now)) }
+    ensures all { IfOk result (λ all. IfSome all (λ all.
+        (all.items ≡ spread changes.0 changes.1 axes cells.now) × (vec_len all ≤ limit))) }
+    ensures more { IfOk result (λ all. IfNone all
+        (limit < length (spread changes.0 changes.1 axes cells.now))) }
 {
     if limit < cells.len() {
         return Ok(None);

@@ -1,20 +1,8 @@
 -- Cells, generators and chains as they are printed.
-use Rattle.std.specs.Prelude.{ℕ, ℤ, List, [], ◌∷◌, ◌++◌, drop, Bool, true, false, codes, decimal}
+use Rattle.std.specs.Prelude.{ℕ, List, [], ◌∷◌, ◌++◌, codes, decimal}
 use Rattle.std.specs.List.{flat_map}
-use Rattle.outside.specs.Decimal as integers
 use Rattle.elem_cubes.specs.Cells.{Factor, lower_of, upper_of}
-
--- numbers, each behind a space
-abbrev pub spaced : List ℤ → List ℕ
-spaced zs = flat_map (λ z. 32 ∷ integers.decimal z) zs
-
-abbrev pub next_text : Bool → ℤ → List ℕ
-next_text true z = integers.decimal z
-next_text false z = 32 ∷ integers.decimal z
-
--- numbers separated by one space, in brackets
-abbrev pub corner_text : List ℤ → List ℕ
-corner_text zs = 40 ∷ drop 1 (spaced zs) ++ 41 ∷ []
+use Rattle.corner_texts.specs.CornerText.{corner_text}
 
 -- a cell by its lower and its upper corner, also where it is full
 abbrev pub cell_text : List Factor → List ℕ

@@ -7,7 +7,8 @@ use crate::terms::Terms;
 use itoa::Buffer;
 use std::alloc::AllocError as NoMemory;
 
-/// Adds a chain: its terms in order, each but the first behind a plus; one without terms has no text.
+/// Adds a chain: its terms in order, each but the first behind a plus.
+/// One without terms has no text.
 pub fn put_chain<G: Generator>(to: &mut Vec<u8>, chain: &Terms<G>) -> Result<(), NoMemory>
     ensures { OnOk result (to.new.items ≡ to.old.items ++ chain_text G.text chain.now) }
 {

@@ -30,8 +30,8 @@ pub enum Fault {
         place: u64,
         cause: Cause,
     },
-    /// In a chain file the boundary of the boundary of a generator of this degree has a coefficient that is not 0 at
-    /// another generator. Generators are numbered in their degrees from 1.
+    /// In a chain file the boundary of the boundary of a generator of this degree has a coefficient
+    /// that is not 0 at another generator. Generators are numbered in their degrees from 1.
     #[error("{name}: dimension {degree}: # {generator}: boundary of boundary has {value} * {at}")]
     NotComplex {
         name: Name,
@@ -138,7 +138,8 @@ fn not_complex_text(
     value: u16,
     at: u32,
 ) -> Result<Vec<u8>, NoMemory>
-    ensures { IfOk result (λ line. line.items ≡ fault_text (Fault.NotComplex name.now degree generator value at)) }
+    ensures { IfOk result
+        (λ line. line.items ≡ fault_text (Fault.NotComplex name.now degree generator value at)) }
 {
     let mut line = frame(alloc, b"error: ", name, b": dimension ")?;
     put_after(&mut line, b"", degree)?;
@@ -151,7 +152,8 @@ fn not_complex_text(
 
 // The line on two dimensions.
 fn dimension_text(alloc: Global, name: &Name, found: u8, before: u8) -> Result<Vec<u8>, NoMemory>
-    ensures { IfOk result (λ line. line.items ≡ fault_text (Fault.Dimension name.now found before)) }
+    ensures { IfOk result
+        (λ line. line.items ≡ fault_text (Fault.Dimension name.now found before)) }
 {
     let mut line = frame(alloc, b"error: ", name, b": dimension ")?;
     put_after(&mut line, b"", found)?;

@@ -1,4 +1,5 @@
-//! Why a run did not print its report: faults with their lines and their statuses, and names, cells and chains as they are printed.
+//! Why a run did not print its report: faults with their lines and their statuses, and names, cells
+//! and chains as they are printed.
 #![tactic(auto)]
 
 mod cause;

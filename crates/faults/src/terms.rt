@@ -4,7 +4,7 @@ ghost use Rattle.std.specs.Prelude.{◌≡◌};
 use elem_cubes::Cell;
 use std::marker::Model;
 
-/// The terms of a chain: generators with their coefficients, in the order in which they are printed.
+/// The terms of a chain: generators with coefficients, in the order in which they are printed.
 #[derive(Drop)]
 pub struct Terms<G> {
     terms: Vec<(G, u16)>,

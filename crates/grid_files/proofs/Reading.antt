@@ -13,7 +13,7 @@ use Rattle.grid_files.specs.declared.fault.Kind.{Kind}
 use Rattle.grid_files.specs.declared.fault.TextCause.{TextCause}
 use Rattle.grid_files.specs.declared.fault.TextCause.TheVariants.{BadByte, Unclosed, CoordinateTooLarge}
 use Rattle.grid_files.specs.declared.piece.Piece.{Piece}
-use Rattle.grid_files.specs.declared.piece.Piece.TheVariants.{Number, Wide, Mark, Strange, SkippedLine, DimensionWord, DimensionNumber, NoNumber, Stray}
+use Rattle.grid_files.specs.declared.piece.Piece.TheVariants.{Number, Wide, Mark, Arrow, Strange, SkippedLine, DimensionWord, DimensionNumber, NoNumber, Stray}
 
 -- ---- what a step says
 
@@ -31,6 +31,7 @@ corner_cause : (test : ℤ → Bool) (more : List ℤ → Open) (close : Step) (
 corner_cause test more close xs (Number z) e = chosen_cause (test z) (goes (more (xs ++ z ∷ []))) CoordinateTooLarge refl
 corner_cause test more close xs Wide e = refl
 corner_cause test more close xs (Mark b) e = chosen_cause (b == 41 && not (is_empty xs)) close BadByte e
+corner_cause test more close xs Arrow e = refl
 corner_cause test more close xs Strange e = refl
 corner_cause test more close xs SkippedLine e = refl
 corner_cause test more close xs DimensionWord e = refl
@@ -42,6 +43,7 @@ mark_cause : (wanted : ℕ) (found : Step) (p : Piece) → cause_in found ≡ No
 mark_cause wanted found (Number z) e = refl
 mark_cause wanted found Wide e = refl
 mark_cause wanted found (Mark b) e = chosen_cause (b == wanted) found BadByte e
+mark_cause wanted found Arrow e = refl
 mark_cause wanted found Strange e = refl
 mark_cause wanted found SkippedLine e = refl
 mark_cause wanted found DimensionWord e = refl
@@ -58,6 +60,7 @@ pub agrees : (o : Open) (p : Piece) → refused o p ≡ cause_in (step o p)
 agrees nothing (Number z) = refl
 agrees nothing Wide = refl
 agrees nothing (Mark b) = outer_cause (b == 40) (b == 91)
+agrees nothing Arrow = refl
 agrees nothing Strange = refl
 agrees nothing SkippedLine = refl
 agrees nothing DimensionWord = refl
@@ -73,6 +76,7 @@ agrees (before_end ls us) p = mark_cause 93 (closes (elementary ls us)) p refl
 agrees behind_word (Number z) = refl
 agrees behind_word Wide = refl
 agrees behind_word (Mark b) = refl
+agrees behind_word Arrow = refl
 agrees behind_word Strange = refl
 agrees behind_word SkippedLine = refl
 agrees behind_word DimensionWord = refl
@@ -99,13 +103,13 @@ and_both false b h = cc
 pub both_and : (a b : Bool) → a ≡ true → b ≡ true → a && b ≡ true
 both_and a b h k = rw (h, k) refl
 
-all_more : (test : ℤ → Bool) (xs : List ℤ) (z : ℤ) → list_all test xs ≡ true → test z ≡ true → list_all test (xs ++ z ∷ []) ≡ true
+pub all_more : (test : ℤ → Bool) (xs : List ℤ) (z : ℤ) → list_all test xs ≡ true → test z ≡ true → list_all test (xs ++ z ∷ []) ≡ true
 all_more test xs z h k = list_all-append test xs (z ∷ []) ∙ rw (h, k) refl
 
-number_more : (xs : List ℤ) (z : ℤ) → opened (xs ++ z ∷ []) ≡ opened xs ++ Number z ∷ []
+pub number_more : (xs : List ℤ) (z : ℤ) → opened (xs ++ z ∷ []) ≡ opened xs ++ Number z ∷ []
 number_more xs z = ap (λ ps. Mark 40 ∷ ps) (map-append Number xs (z ∷ []))
 
-mark_is : (b n : ℕ) → b == n ≡ true → b ≡ n
+pub mark_is : (b n : ℕ) → b == n ≡ true → b ≡ n
 mark_is b n h = grind (arith, nat_tests)
 
 corner_says : (o : Open) (test : ℤ → Bool) (more : List ℤ → Open) (close : Step) (xs : List ℤ)
@@ -117,6 +121,7 @@ corner_says o test more close xs e f g (Number z) = choice o (Number z) (test z)
 corner_says o test more close xs e f g Wide = e Wide
 corner_says o test more close xs e f g (Mark b) = choice o (Mark b) (b == 41 && not (is_empty xs)) close BadByte (e (Mark b))
     (λ h. subst (λ n. Says o (Mark n) close) (sym (mark_is b 41 (and_both (b == 41) (not (is_empty xs)) h).0)) (g (and_both (b == 41) (not (is_empty xs)) h).1))
+corner_says o test more close xs e f g Arrow = e Arrow
 corner_says o test more close xs e f g Strange = e Strange
 corner_says o test more close xs e f g SkippedLine = e SkippedLine
 corner_says o test more close xs e f g DimensionWord = e DimensionWord
@@ -129,6 +134,7 @@ mark_says : (o : Open) (wanted : ℕ) (found : Step) → ((p : Piece) → refuse
 mark_says o wanted found e f (Number z) = e (Number z)
 mark_says o wanted found e f Wide = e Wide
 mark_says o wanted found e f (Mark b) = choice o (Mark b) (b == wanted) found BadByte (e (Mark b)) (λ h. subst (λ n. Says o (Mark n) found) (sym (mark_is b wanted h)) f)
+mark_says o wanted found e f Arrow = e Arrow
 mark_says o wanted found e f Strange = e Strange
 mark_says o wanted found e f SkippedLine = e SkippedLine
 mark_says o wanted found e f DimensionWord = e DimensionWord
@@ -146,6 +152,7 @@ pub says : (o : Open) (p : Piece) → fits_open o ≡ true → Says o p (step o 
 says nothing (Number z) h = refl
 says nothing Wide h = refl
 says nothing (Mark b) h = outer_says b (b == 40) (b == 91) refl refl
+says nothing Arrow h = refl
 says nothing Strange h = refl
 says nothing SkippedLine h = (refl, refl)
 says nothing DimensionWord h = (refl, refl)
@@ -176,6 +183,7 @@ says (before_end ls us) p h = mark_says (before_end ls us) 93 (closes (elementar
 says behind_word (Number z) h = refl
 says behind_word Wide h = refl
 says behind_word (Mark b) h = refl
+says behind_word Arrow h = refl
 says behind_word Strange h = refl
 says behind_word SkippedLine h = refl
 says behind_word DimensionWord h = refl

@@ -11,14 +11,14 @@ use elem_cubes::{HIGH, LOW, MAX_EMBEDDING};
 /// The first numbers of a corner, and how many it has, counted up to one more than a corner may
 /// have.
 #[derive(Clone, Copy)]
-pub(crate) struct OpenCorner {
-    pub(crate) numbers: [i32; MAX_EMBEDDING],
-    pub(crate) count: usize,
+pub struct OpenCorner {
+    pub numbers: [i32; MAX_EMBEDDING],
+    pub count: usize,
 }
 
 /// What a piece does in a corner.
 #[derive(Clone, Copy)]
-pub(crate) enum CornerStep {
+pub enum CornerStep {
     More(OpenCorner),
     Close,
     Stop(TextCause),
@@ -26,7 +26,7 @@ pub(crate) enum CornerStep {
 
 impl OpenCorner {
     /// No numbers yet.
-    pub(crate) fn new() -> OpenCorner
+    pub fn new() -> OpenCorner
         ensures { IsCorner result [] }
     {
         OpenCorner {
@@ -63,7 +63,7 @@ fn end_of(full: bool, z: i64) -> Option<i32>
 }
 
 /// What a piece does in the corner of a full cube, or of an elementary one.
-pub(crate) fn in_corner(full: bool, corner: OpenCorner, piece: Piece) -> CornerStep
+pub fn in_corner(full: bool, corner: OpenCorner, piece: Piece) -> CornerStep
     ensures { (xs : List ℤ) → IsCorner corner xs → LeadsIn full xs piece result }
 {
     match piece {
@@ -79,7 +79,8 @@ pub(crate) fn in_corner(full: bool, corner: OpenCorner, piece: Piece) -> CornerS
                 CornerStep::Stop(TextCause::BadByte)
             }
         }
-        Piece::Strange
+        Piece::Arrow
+        | Piece::Strange
         | Piece::SkippedLine
         | Piece::DimensionWord
         | Piece::DimensionNumber(_)

@@ -75,6 +75,7 @@ fn outside(piece: Piece) -> Turn
         Piece::DimensionWord => Turn::Goes(Opening::BehindWord),
         Piece::Number(_)
         | Piece::Wide
+        | Piece::Arrow
         | Piece::Strange
         | Piece::DimensionNumber(_)
         | Piece::NoNumber
@@ -101,6 +102,7 @@ fn after_word(piece: Piece) -> Turn
         Piece::Number(_)
         | Piece::Wide
         | Piece::Mark(_)
+        | Piece::Arrow
         | Piece::Strange
         | Piece::SkippedLine
         | Piece::DimensionWord

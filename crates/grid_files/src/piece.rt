@@ -1,4 +1,4 @@
-//! The pieces of a set file.
+//! The pieces of a set file, or of a map file.
 
 /// The word that begins a dimension line.
 pub(crate) const DIMENSION: [u8; 9] = *b"dimension";
@@ -12,7 +12,9 @@ pub enum Piece {
     Wide,
     /// One of the marks.
     Mark(u8),
-    /// An arrow, or a byte of no use.
+    /// An arrow, `->`.
+    Arrow,
+    /// A byte of no use.
     Strange,
     /// A word with the rest of its line, which is skipped.
     SkippedLine,

@@ -10,7 +10,7 @@ use crate::piece::{DIMENSION, Piece};
 
 /// What a scanner carries from byte to byte: the token that it stands in.
 #[derive(Clone, Copy)]
-pub(crate) enum Carry {
+pub enum Carry {
     /// Between two tokens.
     Between,
     /// In a comment, or in a line that is skipped.
@@ -32,7 +32,7 @@ pub(crate) enum Carry {
 }
 
 /// A piece with the place of its first byte.
-pub(crate) type Placed = (u64, Piece);
+pub type Placed = (u64, Piece);
 
 // A value that counts as being outside 64 bits, whatever digits follow.
 const CAP: u64 = (1 << 63) + 1;
@@ -95,7 +95,8 @@ fn number_piece(negative: bool, value: u64) -> Piece
 
 // Behind a byte of a line that is skipped, or that ends it.
 fn on_line(b: u8) -> Carry
-    ensures pieces { (place : ℕ) (bs : List ℕ) → behind_line place (b ∷ bs) ≡ left result (place + 1) bs }
+    ensures pieces { (place : ℕ) (bs : List ℕ)
+        → behind_line place (b ∷ bs) ≡ left result (place + 1) bs }
     ensures carry { IsCarry result }
     ensures line { b ≡ 10 → result ≡ Between }
 {
@@ -108,7 +109,8 @@ fn on_line(b: u8) -> Carry
 
 // Behind the first byte of what stands between two tokens.
 fn begin(place: u64, b: u8) -> (Carry, Option<Placed>)
-    ensures pieces { (bs : List ℕ) → pieces_behind 0 place (b ∷ bs) ≡ listed result.1 (left result.0 (place + 1) bs) }
+    ensures pieces { (bs : List ℕ)
+        → pieces_behind 0 place (b ∷ bs) ≡ listed result.1 (left result.0 (place + 1) bs) }
     ensures carry { IsCarry result.0 }
     ensures line { b ≡ 10 → result.0 ≡ Between }
 {
@@ -147,7 +149,8 @@ fn begin(place: u64, b: u8) -> (Carry, Option<Placed>)
 fn letter(at: u64, matched: usize, b: u8) -> (Carry, Option<Placed>)
     requires matched { matched ≤ 9 }
     requires letter { is_ascii_alphabetic b ≡ true }
-    ensures pieces { (place : ℕ) (bs : List ℕ) → left (Word at matched) place (b ∷ bs) ≡ listed result.1 (left result.0 (place + 1) bs) }
+    ensures pieces { (place : ℕ) (bs : List ℕ) → left (Word at matched) place (b ∷ bs)
+        ≡ listed result.1 (left result.0 (place + 1) bs) }
     ensures carry { IsCarry result.0 }
     ensures line { b ≡ 10 → result.0 ≡ Between }
 {
@@ -165,7 +168,8 @@ fn letter(at: u64, matched: usize, b: u8) -> (Carry, Option<Placed>)
 
 // Behind a byte that stands behind the word `dimension`, before its number.
 fn begin_number(place: u64, b: u8) -> (Carry, Option<Placed>)
-    ensures pieces { (bs : List ℕ) → left Behind place (b ∷ bs) ≡ listed result.1 (left result.0 (place + 1) bs) }
+    ensures pieces { (bs : List ℕ)
+        → left Behind place (b ∷ bs) ≡ listed result.1 (left result.0 (place + 1) bs) }
     ensures carry { IsCarry result.0 }
     ensures line { b ≡ 10 → result.0 ≡ Between }
 {
@@ -194,7 +198,8 @@ fn begin_number(place: u64, b: u8) -> (Carry, Option<Placed>)
 
 // Behind a byte that stands behind the number of a dimension line.
 fn after_number(place: u64, b: u8) -> (Carry, Option<Placed>)
-    ensures pieces { (bs : List ℕ) → left AfterNumber place (b ∷ bs) ≡ listed result.1 (left result.0 (place + 1) bs) }
+    ensures pieces { (bs : List ℕ)
+        → left AfterNumber place (b ∷ bs) ≡ listed result.1 (left result.0 (place + 1) bs) }
     ensures carry { IsCarry result.0 }
     ensures line { b ≡ 10 → result.0 ≡ Between }
 {
@@ -212,10 +217,10 @@ fn after_number(place: u64, b: u8) -> (Carry, Option<Placed>)
 
 /// What one byte tells: at most two pieces, and the new carry.
 #[derive(Clone, Copy)]
-pub(crate) struct Scanned {
-    pub(crate) carry: Carry,
-    pub(crate) first: Option<Placed>,
-    pub(crate) second: Option<Placed>,
+pub struct Scanned {
+    pub carry: Carry,
+    pub first: Option<Placed>,
+    pub second: Option<Placed>,
 }
 
 // A piece, and then what the next token begins with.
@@ -244,7 +249,7 @@ fn after_dash(at: u64, place: u64, b: u8) -> Scanned
         });
     }
     if b == b'>' {
-        return then((at, Piece::Strange), (Carry::Between, None));
+        return then((at, Piece::Arrow), (Carry::Between, None));
     }
     then((at, Piece::Strange), begin(place, b))
 }
@@ -348,7 +353,7 @@ fn telling(next: (Carry, Option<Placed>)) -> Scanned
 }
 
 /// One more byte of a text, which stands at this place.
-pub(crate) fn scan(carry: Carry, place: u64, b: u8) -> Scanned
+pub fn scan(carry: Carry, place: u64, b: u8) -> Scanned
     requires { IsCarry carry }
     ensures pieces { Scans carry place b result.carry result.first result.second }
     ensures carry { IsCarry result.carry }

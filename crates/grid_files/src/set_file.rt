@@ -16,7 +16,8 @@ use std::alloc::Global;
 pub fn read_set(alloc: Global, bytes: &[u8], kind: Kind) -> Result<CubeSet, TextFault>
     ensures value { IfOk result (λ set. HasValue kind bytes.now set) }
     ensures few { IfOk result (λ set. length set.cells ≤ CUBES) }
-    ensures full { kind ≡ Kind.Full → IfOk result (λ set. IsTrue (list_all (list_all is_wide) set.cells)) }
+    ensures full { kind ≡ Kind.Full
+        → IfOk result (λ set. IsTrue (list_all (list_all is_wide) set.cells)) }
     ensures refusal { IfErr result (IsFaultOf kind bytes.now) }
 {
     let mut reader = Reader::new(alloc, kind);

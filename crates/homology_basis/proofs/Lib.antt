@@ -1,4 +1,3 @@
-pub mod Maps
 pub mod Scaled
 pub mod LeftOnes
 pub mod Dual

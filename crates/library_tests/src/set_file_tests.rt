@@ -1,6 +1,7 @@
 //! Set files that are read, and that are refused.
 use grid_files::{
-    Kind, TextCause, TextFault, read_set, texts_have_one_outcome, written_sets_are_read,
+    Kind, TextCause, TextFault, keyword_is_of_the_format, read_set, refusals_are_first,
+    texts_have_one_outcome, written_sets_are_read,
 };
 use std::alloc::Global;
 
@@ -206,6 +207,8 @@ fn not_such_cubes(rt: HostRuntime) {
 
 #[test]
 fn laws_of_set_files_hold() {
+    keyword_is_of_the_format();
+    refusals_are_first();
     texts_have_one_outcome();
     written_sets_are_read();
 }

@@ -1,7 +1,9 @@
 //! Sets of cells on small examples.
 ghost use Rattle.std.specs.Prelude.{◌≡◌, IfOk};
 
-use cube_sets::{CubeSet, SetFault, are_members, cells_are_faces, neighbours_meet};
+use cube_sets::{
+    CubeSet, SetFault, are_members, cells_are_faces, limit_is_of_the_formats, neighbours_meet,
+};
 use elem_cubes::{Cell, Corner, HIGH, LOW, MAX_EMBEDDING};
 use std::alloc::Global;
 use std::process::Abort;
@@ -194,5 +196,6 @@ fn neighbours_stay_in_range(rt: HostRuntime) -> Result<(), Fail> {
 #[test]
 fn laws_hold() {
     cells_are_faces();
+    limit_is_of_the_formats();
     neighbours_meet();
 }

@@ -1,5 +1,5 @@
 -- The loading of two sets.
-use Rattle.std.proofs.Common.{◌≡◌, ℕ, ◌+◌, ◌*◌, ◌≤◌, ◌∷◌, [], Bool, true, false, cond, List, length, Option, None, Some, Result, Ok, Err, IfOk, IfErr, refl, sym, subst, ◌⊎◌, inl, inr}
+use Rattle.std.proofs.Common.{◌≡◌, ℕ, ◌*◌, Bool, true, false, cond, List, length, Option, Result, Ok, Err, IfOk, IfErr, sym, subst, ◌⊎◌, inl, inr}
 use Rattle.outside.specs.Seen.{Seen}
 use Rattle.cube_sets.specs.Sets.{Members, dimensions_agree}
 use Rattle.grid_files.specs.declared.fault.Kind.TheVariants.{Any}
@@ -12,7 +12,7 @@ use Rattle.loading.specs.TwoSets.{two_names, two_bytes, second_name, two_sets, A
 use Rattle.loading.specs.Loads.{Loads}
 use Rattle.loading.specs.declared.two_sets.TwoSets.{TwoSets}
 use Rattle.loading.proofs.Steps.{settled}
-use Rattle.loading.proofs.OfFiles.{IsPlain, IsMade, IsOfFiles, then_files, made, set_in_files, subset_in_files}
+use Rattle.loading.proofs.OfFiles.{IsPlain, IsOfFiles, then_files, made, set_in_files, subset_in_files}
 use Rattle.loading.proofs.Loading.{then_loads, refused, after, named_itself, named_later}
 
 module _ (x : List ℕ) (y : Option (List ℕ)) where

@@ -1,7 +1,9 @@
--- Steps that read files of these names and no others: where the files are told they have one outcome, and what they find they find also
--- where a file may fail to be read.
-use Rattle.std.proofs.Common.{◌≡◌, ℕ, ◌<◌, ◌≤◌, List, length, Option, None, Some, Result, Ok, Err, IfSome, Contains, refl, sym, ap, ◌∙◌, subst, arith, ◌⊎◌, inl, inr, ⊎_elim}
+-- Steps that read files of these names and no others: where the files are told they have one outcome, and where one file more cannot
+-- be read, what was found is still there, or it is the one that cannot be read.
+use Rattle.std.proofs.Common.{◌≡◌, ℕ, ◌<◌, ◌≤◌, Bool, true, false, cond, List, length, Option, None, Some, Result, Ok, Err, Contains, refl, sym, ap, ◌∙◌, subst, arith, ◌⊎◌, inl, inr}
 use Rattle.std.proofs.lemmas.Bool.{cases_lt}
+use Rattle.std.proofs.lemmas.Slice.Eq.{bytes_eq-Decides}
+use Rattle.std.specs.Str.{bytes_eq}
 use Rattle.outside.specs.Disk.{Disk, content}
 use Rattle.cube_sets.specs.Sets.{Members}
 use Rattle.grid_files.specs.SetFile.{HasValue, IsRefusedAt, no_members}
@@ -13,7 +15,7 @@ use Rattle.faults.specs.declared.fault.Fault.{Fault}
 use Rattle.faults.specs.declared.fault.Fault.TheVariants.{BadText, NotComplex, Dimension, CannotRead, Limit}
 use Rattle.faults.specs.declared.limit_name.LimitName.TheVariants.{FileBytes}
 use Rattle.loading.specs.Steps.{Then, Is, IsOne}
-use Rattle.loading.specs.Readings.{Reading, Finds, reading, but_for, file_bytes}
+use Rattle.loading.specs.Readings.{Reading, Finds, reading, told, but_for, file_bytes}
 use Rattle.loading.specs.Sets.{text_fault, IsSetOf, IsSetIn, IsSubsetIn, and_subset}
 use Rattle.loading.proofs.Steps.{settled, then_one}
 
@@ -32,14 +34,15 @@ pub record IsMade {A : Type 0} (step : Result A Fault → Type 0) : Type 0 where
   pub plain : (fault : Fault) → step (Err fault) → IsPlain fault
 
 pub record IsOfFiles {A : Type 0} (names : List (List ℕ)) (gives : Reading → Result A Fault → Type 0) : Type 0 where
-  pub one : (disk : Disk) → IsOne (gives (reading (Some disk)))
-  pub wider : (unread : List ℕ) (holds : Option Disk) (o : Result A Fault) → gives (reading holds) o → gives (but_for unread (reading holds)) o
+  pub one : (disk : Disk) (unread : List ℕ → Bool) → IsOne (gives (told disk unread))
+  pub stable : (unread : List ℕ) (holds : Option Disk) (x : A) → gives (reading holds) (Ok x)
+    → gives (but_for unread (reading holds)) (Ok x) ⊎ gives (but_for unread (reading holds)) (Err (CannotRead unread))
   pub named : (holds : Option Disk) (name : List ℕ) → gives (but_for name (reading holds)) (Err (CannotRead name)) → Contains names name
 
 -- ---- what reads nothing
 
 pub made : {A : Type 0} (names : List (List ℕ)) (step : Result A Fault → Type 0) → IsMade step → IsOfFiles names (λ read. step)
-made names step m = record { one = λ disk. m.one; wider = λ unread holds o h. h; named = λ holds name h. absurd (m.plain (CannotRead name) h) }
+made names step m = record { one = λ disk unread. m.one; stable = λ unread holds x h. inl h; named = λ holds name h. absurd (m.plain (CannotRead name) h) }
 
 pub value_made : {A : Type 0} (x : A) → IsMade (Is (Ok x))
 value_made x = record { one = settled (Ok x); plain = λ fault e. absurd (never x fault e) }
@@ -49,52 +52,72 @@ value_made x = record { one = settled (Ok x); plain = λ fault e. absurd (never 
 
 -- ---- one read
 
-found : (disk : Disk) (limit : ℕ) (name : List ℕ) → IsOne (Finds (reading (Some disk)) limit name)
-found disk limit name = by (cases_lt limit (length (content disk name)))
+found : (disk : Disk) (unread : List ℕ → Bool) (limit : ℕ) (name : List ℕ) → IsOne (Finds (told disk unread) limit name)
+found disk unread limit name = by (unread name) refl (cases_lt limit (length (content disk name)))
   where
     never : limit < length (content disk name) → length (content disk name) ≤ limit → ⊥
     never l m = omega (arith, l, m)
 
-    no_failure : (fault : Fault) → Finds (reading (Some disk)) limit name (Err fault) → (fault ≡ Limit FileBytes limit) × (limit < length (content disk name))
-    no_failure fault (inl h) = h
-    no_failure fault (inr (e, u)) = cc
+    both : unread name ≡ false → unread name ≡ true → ⊥
+    both f t = let e : false ≡ true = sym f ∙ t in cc
 
-    one : (o r : Result (List ℕ) Fault) → Finds (reading (Some disk)) limit name o → Finds (reading (Some disk)) limit name r → o ≡ r
-    one (Ok x) (Ok y) h k = ap (λ b. Ok b) (h.1 ∙ sym k.1)
-    one (Ok x) (Err g) h k = absurd (never (no_failure g k).1 (subst (λ (b : List ℕ). length b ≤ limit) h.1 h.0))
-    one (Err f) (Ok y) h k = absurd (never (no_failure f h).1 (subst (λ (b : List ℕ). length b ≤ limit) k.1 k.0))
-    one (Err f) (Err g) h k = ap (λ c. Err c) ((no_failure f h).0 ∙ sym (no_failure g k).0)
+    few : (x : List ℕ) → Finds (told disk unread) limit name (Ok x) → length (content disk name) ≤ limit
+    few x h = subst (λ (b : List ℕ). length b ≤ limit) h.2 h.1
 
-    by : ((limit < length (content disk name)) ⊎ (length (content disk name) ≤ limit)) → IsOne (Finds (reading (Some disk)) limit name)
-    by (inl more) = record { outcome = Err (Limit FileBytes limit); holds = inl (refl, more); one = one }
-    by (inr few) = record { outcome = Ok (content disk name); holds = (few, refl); one = one }
+    one : (o r : Result (List ℕ) Fault) → Finds (told disk unread) limit name o → Finds (told disk unread) limit name r → o ≡ r
+    one (Ok x) (Ok y) h k = ap (λ b. Ok b) (h.2 ∙ sym k.2)
+    one (Ok x) (Err g) h (inl k) = absurd (never k.2 (few x h))
+    one (Ok x) (Err g) h (inr k) = absurd (both h.0 k.0)
+    one (Err f) (Ok y) (inl h) k = absurd (never h.2 (few y k))
+    one (Err f) (Ok y) (inr h) k = absurd (both k.0 h.0)
+    one (Err f) (Err g) (inl h) (inl k) = ap (λ c. Err c) (h.1 ∙ sym k.1)
+    one (Err f) (Err g) (inl h) (inr k) = absurd (both h.0 k.0)
+    one (Err f) (Err g) (inr h) (inl k) = absurd (both k.0 h.0)
+    one (Err f) (Err g) (inr h) (inr k) = ap (λ c. Err c) (h.1 ∙ sym k.1)
+
+    by : (b : Bool) → unread name ≡ b → ((limit < length (content disk name)) ⊎ (length (content disk name) ≤ limit)) → IsOne (Finds (told disk unread) limit name)
+    by true e m = record { outcome = Err (CannotRead name); holds = inr (e, refl); one = one }
+    by false e (inl more) = record { outcome = Err (Limit FileBytes limit); holds = inl (e, refl, more); one = one }
+    by false e (inr less) = record { outcome = Ok (content disk name); holds = (e, less, refl); one = one }
 
 pub of_file : (names : List (List ℕ)) (limit : ℕ) (name : List ℕ) → Contains names name → IsOfFiles names (λ read. Finds read limit name)
-of_file names limit name within = record { one = λ disk. found disk limit name; wider = wider; named = named }
+of_file names limit name within = record { one = λ disk unread. found disk unread limit name; stable = stable; named = named }
   where
-    wider : (unread : List ℕ) (holds : Option Disk) (o : Result (List ℕ) Fault) → Finds (reading holds) limit name o → Finds (but_for unread (reading holds)) limit name o
-    wider unread holds (Ok bytes) h = h
-    wider unread holds (Err fault) (inl h) = inl h
-    wider unread holds (Err fault) (inr (e, u)) = cc
+    stable : (unread : List ℕ) (holds : Option Disk) (x : List ℕ) → Finds (reading holds) limit name (Ok x)
+        → Finds (but_for unread (reading holds)) limit name (Ok x) ⊎ Finds (but_for unread (reading holds)) limit name (Err (CannotRead unread))
+    stable unread holds x h = by (bytes_eq name unread) refl
+      where
+        by : (b : Bool) → bytes_eq name unread ≡ b
+            → Finds (but_for unread (reading holds)) limit name (Ok x) ⊎ Finds (but_for unread (reading holds)) limit name (Err (CannotRead unread))
+        by true e = inr (inr (ap (λ (c : Bool). cond c true false) e, ap (λ (n : List ℕ). CannotRead n) (sym ((bytes_eq-Decides name unread).0 e))))
+        by false e = inl (ap (λ (c : Bool). cond c true false) e, h.1, h.2)
 
     named : (holds : Option Disk) (other : List ℕ) → Finds (but_for other (reading holds)) limit name (Err (CannotRead other)) → Contains names other
-    named holds other (inl (e, h)) = cc
-    named holds other (inr (e, u)) = subst (λ (n : List ℕ). Contains names n) (let i : name ≡ other = cc in i) within
+    named holds other (inl (f, e, h)) = cc
+    named holds other (inr (t, e)) = subst (λ (n : List ℕ). Contains names n) (let i : name ≡ other = cc in i) within
 
 -- ---- one step after another
+
+-- both find it also where one file more cannot be read, or one of them does not find that
+abbrev Stays : {A B : Type 0} → (Reading → Result A Fault → Type 0) → (Reading → A → Result B Fault → Type 0) → List ℕ → Option Disk → B → Type 0
+Stays first next unread holds y = Then (first (but_for unread (reading holds))) (next (but_for unread (reading holds))) (Ok y)
+    ⊎ Then (first (but_for unread (reading holds))) (next (but_for unread (reading holds))) (Err (CannotRead unread))
 
 pub then_files : {A B : Type 0} (names : List (List ℕ)) (first : Reading → Result A Fault → Type 0) (next : Reading → A → Result B Fault → Type 0)
     → IsOfFiles names first → ((x : A) → IsOfFiles names (λ read. next read x)) → IsOfFiles names (λ read. Then (first read) (next read))
 then_files {A} {B} names first next f n = record {
-  one = λ disk. then_one (first (reading (Some disk))) (next (reading (Some disk))) (f.one disk) (λ x. (n x).one disk);
-  wider = wider; named = named;
+  one = λ disk unread. then_one (first (told disk unread)) (next (told disk unread)) (f.one disk unread) (λ x. (n x).one disk unread);
+  stable = stable; named = named;
 }
   where
-    wider : (unread : List ℕ) (holds : Option Disk) (o : Result B Fault) → Then (first (reading holds)) (next (reading holds)) o
-        → Then (first (but_for unread (reading holds))) (next (but_for unread (reading holds))) o
-    wider unread holds (Ok y) (x, h, k) = (x, f.wider unread holds (Ok x) h, (n x).wider unread holds (Ok y) k)
-    wider unread holds (Err fault) (inl h) = inl (f.wider unread holds (Err fault) h)
-    wider unread holds (Err fault) (inr (x, h, k)) = inr (x, f.wider unread holds (Ok x) h, (n x).wider unread holds (Err fault) k)
+    stable : (unread : List ℕ) (holds : Option Disk) (y : B) → Then (first (reading holds)) (next (reading holds)) (Ok y) → Stays first next unread holds y
+    stable unread holds y (x, h, k) = by (f.stable unread holds x h) ((n x).stable unread holds y k)
+      where
+        by : (first (but_for unread (reading holds)) (Ok x) ⊎ first (but_for unread (reading holds)) (Err (CannotRead unread)))
+            → (next (but_for unread (reading holds)) x (Ok y) ⊎ next (but_for unread (reading holds)) x (Err (CannotRead unread))) → Stays first next unread holds y
+        by (inl g) (inl l) = inl (x, g, l)
+        by (inl g) (inr e) = inr (inr (x, g, e))
+        by (inr e) l = inr (inl e)
 
     named : (holds : Option Disk) (name : List ℕ) → Then (first (but_for name (reading holds))) (next (but_for name (reading holds))) (Err (CannotRead name)) → Contains names name
     named holds name (inl h) = f.named holds name h

@@ -1,5 +1,5 @@
 -- Two sets of files, of which the second may be absent.
-use Rattle.std.specs.Prelude.{◌≡◌, ◌≤◌, ◌*◌, ◌+◌, ℕ, List, ◌∷◌, length, if◌then◌else◌, Option, unwrap_or, Result, Ok, Err, IsTrue}
+use Rattle.std.specs.Prelude.{◌≤◌, ◌*◌, ◌+◌, ℕ, List, ◌∷◌, length, if◌then◌else◌, Option, unwrap_or, Result, Ok, Err, IsTrue}
 use Rattle.cube_sets.specs.Sets.{Members, dimensions_agree}
 use Rattle.grid_files.specs.declared.fault.Kind.TheVariants.{Any}
 use Rattle.faults.specs.declared.fault.Fault.{Fault}

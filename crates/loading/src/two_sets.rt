@@ -20,16 +20,16 @@ pub struct TwoSets {
     pub y: CubeSet,
 }
 
-/// The sets of two files, where their dimensions are equal or one of them is unknown: that of the first file, then that of
-/// the second. Where there is no second file, its set is empty.
+/// The sets of two files, where their dimensions are equal or one of them is unknown: that of the
+/// first file, then that of the second. Where there is no second file, its set is empty.
 pub fn load_two_sets<F: Files>(
     alloc: Global,
     files: &mut F,
     x: &Name,
     y: Option<&Name>,
 ) -> Result<TwoSets, Fault>
-    ensures loads { Loads (two_bytes (option_copied y.entry)) (AreTwoSetsIn x.now (option_copied y.entry))
-        (F.seen files.old) (F.seen files.new) result }
+    ensures loads { Loads (two_bytes (option_copied y.entry))
+        (AreTwoSetsIn x.now (option_copied y.entry)) (F.seen files.old) (F.seen files.new) result }
     ensures operands { IfOk result AreOperands }
 {
     let first = load_set(alloc, files, x, Kind::Any)?;
@@ -47,7 +47,8 @@ fn pair_of(
 ) -> Result<TwoSets, Fault>
     requires few_of_x { length x.cells ≤ CUBES }
     requires few_of_y { length y.cells ≤ CUBES }
-    ensures due { IsDue (two_sets (second_name x_name.now (option_copied y_name.entry)) x y) result }
+    ensures due { IsDue
+        (two_sets (second_name x_name.now (option_copied y_name.entry)) x y) result }
     ensures operands { IfOk result AreOperands }
 {
     if agree(x.dimension(), y.dimension()) {

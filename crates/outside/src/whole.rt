@@ -23,6 +23,17 @@ pub enum ReadFault {
     NoMemory,
 }
 
+impl From<NoMemory> for ReadFault {
+    ghost use Rattle.std.specs.Prelude.{◌≡◌};
+    ghost use Rattle.outside.specs.declared.whole.ReadFault.TheVariants.{NoMemory};
+
+    ghost from_gives = { λ _ fault. fault ≡ NoMemory };
+
+    fn from(_e: NoMemory) -> ReadFault {
+        ReadFault::NoMemory
+    }
+}
+
 const BLOCK: usize = 65536;
 
 /// All bytes of a file that has at most `limit`, itself at most `2 ^ 30`. `Failed` comes only where
@@ -60,11 +71,7 @@ pub fn read_whole<F: Files>(
         let at = bytes.len();
         match files.read_at(name, at as u64, &mut block[..room]) {
             Ok(0) => return Ok(bytes),
-            Ok(n) => {
-                if bytes.extend_from_slice(&block[..n]).is_err() {
-                    return Err(ReadFault::NoMemory);
-                }
-            }
+            Ok(n) => bytes.extend_from_slice(&block[..n])?,
             Err(_) => return Err(ReadFault::Failed),
         }
     }

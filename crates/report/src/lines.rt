@@ -7,15 +7,16 @@ use faults::{Generator, Terms, put_chain};
 use itoa::Buffer;
 use std::alloc::AllocError as NoMemory;
 
-/// Adds the lines on the groups of these dimensions, each with the cycles of its basis where they are shown.
+/// Adds the lines on the groups of these dimensions, each with the cycles of its basis where they
+/// are shown.
 pub(crate) fn put_groups<G: Generator>(
     to: &mut Vec<u8>,
     shown: &Shown,
     dimensions: &[u32],
     cycles: &Cycles<G>,
 ) -> Result<(), NoMemory>
-    ensures { OnOk result (to.new.items ≡ to.old.items
-        ++ group_lines G.text shown.now.modulus dimensions.now (shown_cycles shown.now cycles.now)) }
+    ensures { OnOk result (to.new.items ≡ to.old.items ++ group_lines G.text shown.now.modulus
+        dimensions.now (shown_cycles shown.now cycles.now)) }
 {
     for (degree, dimension) in dimensions.iter().enumerate() {
         let printed = printed_in(shown, cycles, degree);

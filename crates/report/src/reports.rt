@@ -11,9 +11,9 @@ use std::alloc::{AllocError as NoMemory, Global};
 pub enum Report {
     /// On a pair of cubical sets.
     Pair(PairReport),
-    /// On a chain complex: the dimensions of its groups by degree from 0, and the cycles of a basis in
-    /// each degree, their terms by ascending generator. The cycles may be left out where they are not
-    /// printed.
+    /// On a chain complex: the dimensions of its groups by degree from 0, and the cycles of a basis
+    /// in each degree, their terms by ascending generator. The cycles may be left out where they are
+    /// not printed.
     Chain {
         dimensions: Dimensions,
         cycles: Cycles<u32>,

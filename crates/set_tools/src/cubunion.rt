@@ -50,7 +50,8 @@ pub fn combine<F: Files>(
 // The union or the intersection of two sets, where it is not too large.
 fn compute(alloc: Global, combination: Combination, sets: &TwoSets) -> Result<Answer, Fault>
     requires { AreOperands sets.now }
-    ensures { Computes (RefusesCombination combination) (IsCombinationText combination) sets.now result }
+    ensures { Computes (RefusesCombination combination) (IsCombinationText combination)
+        sets.now result }
 {
     let set = combine_sets(alloc, combination, &sets.x, &sets.y)?;
     if set.len() > CUBES {
@@ -69,8 +70,10 @@ fn combine_sets(
     requires agree { IsTrue (dimensions_agree x.now.dimension y.now.dimension) }
     requires few { length x.now.cells + length y.now.cells < 2 ^ 32 }
     ensures dimension { IfOk result (λ set. set.dimension ≡ max x.now.dimension y.now.dimension) }
-    ensures members { IfOk result (λ set. (q : List Factor) → holds set q ≡ is_combined combination x.now y.now q) }
-    ensures cells { IfOk result (λ set. set.cells ≡ combined_of combination x.now.cells y.now.cells) }
+    ensures members { IfOk result (λ set. (q : List Factor)
+        → holds set q ≡ is_combined combination x.now y.now q) }
+    ensures cells { IfOk result (λ set.
+        set.cells ≡ combined_of combination x.now.cells y.now.cells) }
 {
     match combination {
         Combination::Union => x.union(alloc, y),

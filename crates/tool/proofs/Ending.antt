@@ -1,6 +1,5 @@
 -- What a fault rests on decides the status, for any job that is judged in one way.
-use Rattle.std.proofs.Common.{◌≡◌, ◌≢◌, ℕ, List, [], append-nil, Option, None, Some, Result, Ok, Err, IfSome, Contains, refl, sym, ap, ◌∙◌, subst, ◌⊎◌, inl, inr}
-use Rattle.outside.specs.Causes.{Rose}
+use Rattle.std.proofs.Common.{◌≡◌, ◌≢◌, ℕ, false, List, [], append-nil, Option, None, Some, Result, Ok, Err, IfSome, refl, sym, ap, ◌∙◌, subst, ◌⊎◌, inl, inr}
 use Rattle.outside.specs.Disk.{Disk}
 use Rattle.outside.specs.Seen.{Seen}
 use Rattle.outside.specs.Told.{Gains}
@@ -9,9 +8,9 @@ use Rattle.faults.specs.declared.fault.Fault.TheVariants.{NoTool, NotAForm, Cann
 use Rattle.faults.specs.declared.status.Status.{Status}
 use Rattle.faults.specs.declared.status.Status.TheVariants as statuses
 use Rattle.faults.specs.Statuses.{status_of, without_chain}
-use Rattle.loading.specs.Readings.{reading, but_for, as_read}
+use Rattle.loading.specs.Readings.{reading, as_read}
 use Rattle.loading.specs.Loads.{IsCaused}
-use Rattle.loading.specs.Jobs.{Job, IsAllowed, IsJudged, AreAlike, HasOneJudgement, IsRefusedWith, IsAnswer, RestsOn}
+use Rattle.loading.specs.Jobs.{Job, IsJudged, HasOneJudgement, IsRefusedWith, IsAnswer, RestsOn}
 use Rattle.tool.specs.Ends.{ReadFailed, EndsAs}
 
 status_without_chain : (fault : Fault) → status_of (without_chain fault) ≡ status_of fault
@@ -56,8 +55,8 @@ module _ (job : Job) (once : HasOneJudgement job) (old new : Seen) where
     Exact status disk = (outcome : Result job.Input Fault) → IsJudged job (reading (Some disk)) outcome → EndsAs outcome Failed wrote status
 
     judged : (disk : Disk) (fault : Fault) → IsJudged job (reading (Some disk)) (Err fault) → Exact (status_of fault) disk
-    judged disk fault h (Ok input) k = absurd (once.one disk (Ok input) (Err fault) k h)
-    judged disk fault h (Err other) k = inl (one_status fault other (once.one disk (Err fault) (Err other) h k))
+    judged disk fault h (Ok input) k = absurd (once.one disk (λ name. false) (Ok input) (Err fault) k h)
+    judged disk fault h (Err other) k = inl (one_status fault other (once.one disk (λ name. false) (Err fault) (Err other) h k))
 
     by_why : (fault : Fault) → Why fault → (disk : Disk) → old.holds ≡ Some disk → Exact (status_of fault) disk
     by_why fault (for_memory e) disk is outcome k = subst (λ (f : Fault). EndsAs outcome Failed wrote (status_of f)) (sym e) (by_memory outcome Failed wrote)
@@ -83,7 +82,7 @@ module _ (job : Job) (once : HasOneJudgement job) (old new : Seen) where
 
         given : (disk : Disk) → old.holds ≡ Some disk → Exact status disk
         given disk is (Ok other) k = ended other ends
-        given disk is (Err fault) k = absurd (once.one disk (Ok input) (Err fault) (subst (λ (o : Option Disk). IsJudged job (reading o) (Ok input)) is judged_so) k)
+        given disk is (Err fault) k = absurd (once.one disk (λ name. false) (Ok input) (Err fault) (subst (λ (o : Option Disk). IsJudged job (reading o) (Ok input)) is judged_so) k)
 
   -- ---- what is refused whatever the reads find
 

@@ -6,8 +6,8 @@ ghost use Rattle.faults.specs.FaultText.{fault_text};
 ghost use Rattle.faults.specs.Statuses.{status_of};
 ghost use Rattle.tool.specs.Ends.{Says};
 
-use outside::{Sink, send_all};
 use faults::{Fault, Status, fault_text};
+use outside::{Sink, send_all};
 use std::alloc::Global;
 
 /// Writes the text of a report, or as much of it as can be and the line on that.
@@ -15,7 +15,8 @@ pub fn deliver<O: Sink, E: Sink>(text: &[u8], out: &mut O, err: &mut E) -> Statu
     ensures status { (result ≡ Status.Done) ⊎ (result ≡ Status.Write) }
     ensures done { result ≡ Status.Done → Gains (O.written out.old) (O.written out.new) text.now }
     ensures quiet { result ≡ Status.Done → Gains (E.written err.old) (E.written err.new) [] }
-    ensures front { result ≡ Status.Write → GainsFront (O.written out.old) (O.written out.new) text.now }
+    ensures front { result ≡ Status.Write →
+        GainsFront (O.written out.old) (O.written out.new) text.now }
     ensures rose { result ≡ Status.Write → Rose (O.faults out.old) (O.faults out.new) }
     ensures line { result ≡ Status.Write → Says (E.written err.old) (E.written err.new)
         (E.faults err.old) (E.faults err.new) (fault_text Fault.CannotWriteOut) }
@@ -29,8 +30,9 @@ pub fn deliver<O: Sink, E: Sink>(text: &[u8], out: &mut O, err: &mut E) -> Statu
 
 /// Writes the line on a fault, or the one on want of memory where there is none for that line.
 pub fn refuse<E: Sink>(alloc: Global, fault: &Fault, err: &mut E) -> Status
-    ensures { (said : Fault) × ((said ≡ fault.now) ⊎ (said ≡ Fault.OutOfMemory)) × (result ≡ status_of said)
-        × Says (E.written err.old) (E.written err.new) (E.faults err.old) (E.faults err.new) (fault_text said) }
+    ensures { (said : Fault) × ((said ≡ fault.now) ⊎ (said ≡ Fault.OutOfMemory))
+        × (result ≡ status_of said) × Says (E.written err.old) (E.written err.new)
+        (E.faults err.old) (E.faults err.new) (fault_text said) }
 {
     match fault_text(alloc, fault) {
         Ok(line) => {
@@ -46,7 +48,8 @@ pub fn refuse<E: Sink>(alloc: Global, fault: &Fault, err: &mut E) -> Status
 
 // Writes a line as far as it can be.
 fn say<E: Sink>(line: &[u8], err: &mut E)
-    ensures { Says (E.written err.old) (E.written err.new) (E.faults err.old) (E.faults err.new) line.now }
+    ensures { Says (E.written err.old) (E.written err.new)
+        (E.faults err.old) (E.faults err.new) line.now }
 {
     let _ = send_all(err, line);
 }

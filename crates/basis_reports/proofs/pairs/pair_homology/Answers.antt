@@ -12,7 +12,7 @@ pub cycles_by_degree-requires : goal.cycles_by_degree-requires
 cycles_by_degree-requires g c =
     let basis = c.in_ok-basis.basis in (
       (omega arith),
-      λ k j l m. cell_names g.row.P (length c.in_ok-cells.field-0.cells) basis c.in_ok-basis.ensures.basis
+      λ k l j m. cell_names g.row.P (length c.in_ok-cells.field-0.cells) basis c.in_ok-basis.ensures.basis
           (ap (λ (log : Reduced). length log.complex.boundaries) c.in_ok-basis.ensures.log ∙ c.in_ok-cells.ensures.complex.complex.count) k j m,
     )
 

@@ -1,0 +1,4 @@
+pub mod Grouping
+pub mod Made
+pub mod Naming
+pub mod Steps

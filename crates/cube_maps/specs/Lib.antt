@@ -1,0 +1,2 @@
+pub mod CubeMaps
+pub mod Parts

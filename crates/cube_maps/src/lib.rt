@@ -1,0 +1,10 @@
+//! Maps that send full cubes to sets of full cubes.
+#![tactic(auto)]
+
+mod cube_map;
+mod pair;
+mod parts;
+
+pub use cube_map::CubeMap;
+pub use pair::Pair;
+pub use parts::MAP_PAIRS;
