@@ -1,18 +1,16 @@
 -- The numbers of limits and dimensions that are refused.
-use Rattle.std.proofs.Common.{◌≡◌, ℕ, List, Bool, true, false, cond, Option, None, Some, Result, Ok, Err, refl, sym, ap, ◌∙◌, ◌⊎◌, inl, inr}
+use Rattle.std.proofs.Common.{◌≡◌, ℕ, List, Bool, true, false, cond, Option, None, Some, Ok, Err, refl, sym, ap, ◌∙◌, inl, inr}
 use Rattle.cube_sets.specs.Sets.{Members, dimensions_agree}
-use Rattle.grid_files.specs.SetFile.{IsRefusedAt}
 use Rattle.grid_files.specs.declared.fault.Kind.{Kind}
 use Rattle.grid_files.specs.declared.fault.Kind.TheVariants.{Any}
 use Rattle.grid_files.specs.declared.fault.TextCause.{TextCause}
 use Rattle.grid_files.specs.declared.fault.TextCause.TheVariants.{BadByte, BadNumber, Unclosed, MixedDimension, DimensionTooLarge, CoordinateTooLarge, NotElementary, NotFull, TooMany}
-use Rattle.faults.specs.declared.fault.Fault.{Fault}
-use Rattle.faults.specs.declared.fault.Fault.TheVariants.{CannotRead, Dimension, Limit}
+use Rattle.faults.specs.declared.fault.Fault.TheVariants.{Dimension, Limit}
 use Rattle.faults.specs.declared.limit_name.LimitName.{LimitName}
 use Rattle.faults.specs.declared.limit_name.LimitName.TheVariants.{FileBytes, Cubes}
 use Rattle.loading.specs.Readings.{Reading, Finds, file_bytes}
-use Rattle.loading.specs.Sets.{IsSetIn, IsSubsetIn, IsSetOf, text_fault, most_cubes}
-use Rattle.loading.specs.TwoSets.{second_name, two_sets, AreTwoSetsIn}
+use Rattle.loading.specs.Sets.{IsSetIn, IsSubsetIn, text_fault, most_cubes}
+use Rattle.loading.specs.TwoSets.{second_name}
 use Rattle.loading.specs.Laws.{LimitsOfSets, DimensionsOfSets}
 use Rattle.loading.specs.declared.two_sets.TwoSets.{TwoSets}
 

@@ -36,7 +36,7 @@ pub record IsMade {A : Type 0} (step : Result A Fault → Type 0) : Type 0 where
 pub record IsOfFiles {A : Type 0} (names : List (List ℕ)) (gives : Reading → Result A Fault → Type 0) : Type 0 where
   pub one : (disk : Disk) (unread : List ℕ → Bool) → IsOne (gives (told disk unread))
   pub stable : (unread : List ℕ) (holds : Option Disk) (x : A) → gives (reading holds) (Ok x)
-    → gives (but_for unread (reading holds)) (Ok x) ⊎ gives (but_for unread (reading holds)) (Err (CannotRead unread))
+      → gives (but_for unread (reading holds)) (Ok x) ⊎ gives (but_for unread (reading holds)) (Err (CannotRead unread))
   pub named : (holds : Option Disk) (name : List ℕ) → gives (but_for name (reading holds)) (Err (CannotRead name)) → Contains names name
 
 -- ---- what reads nothing
@@ -107,7 +107,8 @@ pub then_files : {A B : Type 0} (names : List (List ℕ)) (first : Reading → R
     → IsOfFiles names first → ((x : A) → IsOfFiles names (λ read. next read x)) → IsOfFiles names (λ read. Then (first read) (next read))
 then_files {A} {B} names first next f n = record {
   one = λ disk unread. then_one (first (told disk unread)) (next (told disk unread)) (f.one disk unread) (λ x. (n x).one disk unread);
-  stable = stable; named = named;
+  stable = stable;
+  named = named;
 }
   where
     stable : (unread : List ℕ) (holds : Option Disk) (y : B) → Then (first (reading holds)) (next (reading holds)) (Ok y) → Stays first next unread holds y

@@ -1,14 +1,13 @@
 -- What is refused before any file is read is judged in one way, and answered so.
-use Rattle.std.proofs.Common.{◌≡◌, ◌≢◌, ◌+◌, ◌≤◌, [], Result, Ok, Err, refl, sym, ap, ◌∙◌, arith, inl, inr}
+use Rattle.std.proofs.Common.{◌≡◌, ◌≢◌, [], Ok, Err, refl, sym, ap, ◌∙◌, arith, inl, inr}
 use Rattle.outside.specs.Seen.{Seen}
 use Rattle.faults.specs.declared.fault.Fault.{Fault}
 use Rattle.faults.specs.declared.fault.Fault.TheVariants.{OutOfMemory}
 use Rattle.faults.specs.declared.status.Status.TheVariants as statuses
 use Rattle.faults.specs.Statuses.{status_of, without_chain}
 use Rattle.loading.specs.Steps.{Is}
-use Rattle.loading.specs.Readings.{Reading}
 use Rattle.loading.specs.Loads.{Loads}
-use Rattle.loading.specs.Jobs.{Job, IsJudged, HasOneJudgement, IsRefusedWith, Answers}
+use Rattle.loading.specs.Jobs.{Job, HasOneJudgement, IsRefusedWith, Answers}
 use Rattle.loading.specs.Refused.{refused_job}
 use Rattle.loading.proofs.OfFiles.{made, value_made}
 use Rattle.loading.proofs.Judging.{judged_once}
