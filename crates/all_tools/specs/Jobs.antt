@@ -1,5 +1,5 @@
 -- What each tool is asked to do by words, as a job that is judged in one way.
-use Rattle.std.specs.Prelude.{[], unwrap_or}
+use Rattle.std.specs.Prelude.{ℕ, List, [], unwrap_or}
 use Rattle.command_line.specs.declared.form.ToolName.{ToolName}
 use Rattle.command_line.specs.declared.form.ToolName.TheVariants as tools
 use Rattle.command_line.specs.Words.{Request, first, second}
@@ -20,14 +20,25 @@ use Rattle.chain_tool.proofs.Judging as of_chains
 
 -- a set, or a set and a subset
 abbrev pub pair_of : Request → PairJob
-pair_of r = record { x = first r.operands; a = second r.operands; modulus = r.options.modulus; cycles = r.options.cycles }
+pair_of r = record {
+  x = first r.operands;
+  a = second r.operands;
+  modulus = r.options.modulus;
+  cycles = r.options.cycles;
+}
+
+-- a set alone
+abbrev pub x_of : Request → List ℕ
+x_of r = first r.operands
 
 -- two sets, both of which the form asks for
 abbrev pub two_files : Combination → Request → CombinationJob
-two_files combination r = record { x = first r.operands; y = unwrap_or (second r.operands) []; combination = combination }
+two_files combination r =
+    record { x = first r.operands; y = unwrap_or (second r.operands) []; combination = combination }
 
 abbrev pub chain_of : Request → ChainJob
-chain_of r = record { file = first r.operands; modulus = r.options.modulus; cycles = r.options.cycles }
+chain_of r =
+    record { file = first r.operands; modulus = r.options.modulus; cycles = r.options.cycles }
 
 -- ---- all tools
 
@@ -39,13 +50,22 @@ pub record Judged : Type 1 where
 abbrev pub judged : (job : Job) → HasOneJudgement job → Judged
 judged job once = record { job = job; once = once }
 
+abbrev judged_pair : PairJob → Judged
+judged_pair job = judged (pairs.pair_job job) (of_pairs.pair_once job)
+
+abbrev judged_combination : CombinationJob → Judged
+judged_combination job = judged (sets.combination_job job) (of_sets.combination_once job)
+
+abbrev judged_chain : ChainJob → Judged
+judged_chain job = judged (chains.chain_job job) (of_chains.chain_once job)
+
 abbrev pub judged_by : ToolName → Request → Judged
-judged_by tools.Homcubes r = judged (pairs.pair_job (pair_of r)) (of_pairs.pair_once (pair_of r))
-judged_by tools.Cubunion r = judged (sets.combination_job (two_files Union r)) (of_sets.combination_once (two_files Union r))
-judged_by tools.Cubinter r = judged (sets.combination_job (two_files Intersection r)) (of_sets.combination_once (two_files Intersection r))
-judged_by tools.Cubnbhd r = judged (sets.neighbours_job (first r.operands)) (of_sets.neighbours_once (first r.operands))
-judged_by tools.Cubcells r = judged (sets.cells_job (first r.operands)) (of_sets.cells_once (first r.operands))
-judged_by tools.Homchain r = judged (chains.chain_job (chain_of r)) (of_chains.chain_once (chain_of r))
+judged_by tools.Homcubes r = judged_pair (pair_of r)
+judged_by tools.Cubunion r = judged_combination (two_files Union r)
+judged_by tools.Cubinter r = judged_combination (two_files Intersection r)
+judged_by tools.Cubnbhd r = judged (sets.neighbours_job (x_of r)) (of_sets.neighbours_once (x_of r))
+judged_by tools.Cubcells r = judged (sets.cells_job (x_of r)) (of_sets.cells_once (x_of r))
+judged_by tools.Homchain r = judged_chain (chain_of r)
 
 abbrev pub job_by : ToolName → Request → Job
 job_by tool r = (judged_by tool r).job

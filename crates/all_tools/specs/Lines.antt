@@ -18,7 +18,8 @@ asked_job (Err fault) = refused_job fault
 abbrev pub asked : List (List ℕ) → Job
 asked words = asked_job (command_of words)
 
-pub asked_once : (due : Result Request Fault) → IfErr due (λ fault. status_of fault ≢ Write) → HasOneJudgement (asked_job due)
+pub asked_once : (due : Result Request Fault) → IfErr due (λ fault. status_of fault ≢ Write)
+    → HasOneJudgement (asked_job due)
 asked_once (Ok command) before = (judged_by command.tool command).once
 asked_once (Err fault) before = refused_once fault before
 

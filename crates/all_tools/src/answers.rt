@@ -36,7 +36,8 @@ pub fn answer_by<F: Files>(
 
 // The homology of a set or a pair.
 fn pair_answer<F: Files>(alloc: Global, files: &mut F, command: &Command) -> Result<Answer, Fault>
-    ensures { Answers (pair_job (pair_of command.now)) (F.seen files.old) (F.seen files.new) result }
+    ensures { Answers (pair_job (pair_of command.now))
+        (F.seen files.old) (F.seen files.new) result }
 {
     let job = pair_job(alloc, command)?;
     homology_of_pair(alloc, files, &job)
@@ -49,7 +50,8 @@ fn combination_answer<F: Files>(
     command: &Command,
     combination: Combination,
 ) -> Result<Answer, Fault>
-    ensures { Answers (combination_job (two_files combination command.now)) (F.seen files.old) (F.seen files.new) result }
+    ensures { Answers (combination_job (two_files combination command.now))
+        (F.seen files.old) (F.seen files.new) result }
 {
     let job = combination_job(alloc, command, combination)?;
     combine(alloc, files, &job)
@@ -57,7 +59,8 @@ fn combination_answer<F: Files>(
 
 // The homology of a chain file.
 fn chain_answer<F: Files>(alloc: Global, files: &mut F, command: &Command) -> Result<Answer, Fault>
-    ensures { Answers (chain_job (chain_of command.now)) (F.seen files.old) (F.seen files.new) result }
+    ensures { Answers (chain_job (chain_of command.now))
+        (F.seen files.old) (F.seen files.new) result }
 {
     let job = chain_job(alloc, command)?;
     homology_of_file(alloc, files, &job)

@@ -32,7 +32,7 @@ fn main(rt: HostRuntime) -> ExitCode {
     ExitCode::from(status.number())
 }
 
-// The words after the program's name. Words that are no text are left out, so that there is no tool.
+// The words after the program's name. Where they are no text there are none, and so no tool.
 fn words_of(rt: &HostRuntime) -> Result<Vec<String>, Fault> {
     let mut words = Vec::new(rt.alloc());
     match env::args(rt) {

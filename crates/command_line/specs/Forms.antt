@@ -1,4 +1,5 @@
--- The forms of the words after a tool's name: a table with a row for each tool and each option, and what words say by it.
+-- The forms of the words after a tool's name: a table with a row for each tool and each option, and
+-- what words say by it.
 use Rattle.std.specs.Prelude.{ℕ, List, [], ◌∷◌, ◌++◌, length, Option, None, Some, Bool, true, false, not, ◌&&◌, ◌==◌, nat_le, nat_lt, if◌then◌else◌, codes, map, string_bytes}
 use Rattle.std.specs.Option.{option_map}
 use Rattle.std.specs.List.{list_any, position_or_len, before_first, after_first}
@@ -26,7 +27,8 @@ pub record Row : Type 0 where
   pub options : List Choice
 
 abbrev pub row : ToolName → List ℕ → ℕ → ℕ → List Choice → Row
-row tool name fewest most options = record { tool = tool; name = name; fewest = fewest; most = most; options = options }
+row tool name fewest most options =
+    record { tool = tool; name = name; fewest = fewest; most = most; options = options }
 
 -- the options of the tools that compute homology
 abbrev pub of_homology : List Choice
@@ -68,7 +70,8 @@ option_named form word = named option_name form.options word
 abbrev pub spoken : {A : Type 0} → List (String A) → List (List ℕ)
 spoken words = map string_bytes words
 
--- what may be an operand, or the value of an option: not empty, and without a dash in front unless it is the dash itself
+-- what may be an operand, or the value of an option: not empty, and without a dash in front unless
+-- it is the dash itself
 abbrev pub is_plain : List ℕ → Bool
 is_plain [] = false
 is_plain (b ∷ []) = true
@@ -93,12 +96,14 @@ alone (Some choice) =
 abbrev pub valued : Option Choice → List ℕ → Option WordRead
 valued None value = None
 valued (Some choice) value =
-    if takes_value choice && not (is_empty value) then Some (record { said = Set (record { choice = choice; value = Some value }); next = Anything })
+    if takes_value choice && not (is_empty value)
+    then Some (record { said = Set (record { choice = choice; value = Some value }); next = Anything })
     else None
 
 abbrev pub option_read : Row → List ℕ → Option WordRead
 option_read form word =
-    if nat_lt (position_or_len is_equals word) (length word) then valued (option_named form (before_first is_equals word)) (after_first is_equals word)
+    if nat_lt (position_or_len is_equals word) (length word)
+    then valued (option_named form (before_first is_equals word)) (after_first is_equals word)
     else alone (option_named form word)
 
 -- what a word says, by what may come next, and what may come after it; nothing where it fits none
@@ -108,7 +113,9 @@ word_read form Anything word =
     else if is_plain word then Some (record { said = Operand word; next = Anything })
     else option_read form word
 word_read form (ValueOf choice) word =
-    if is_plain word then Some (record { said = Set (record { choice = choice; value = Some word }); next = Anything }) else None
+    if is_plain word
+    then Some (record { said = Set (record { choice = choice; value = Some word }); next = Anything })
+    else None
 word_read form OperandsAlone word =
     if is_empty word then None else Some (record { said = Operand word; next = OperandsAlone })
 
@@ -131,8 +138,10 @@ also (Set setting) more = record { operands = more.operands; settings = setting 
 -- one more word behind what was said
 abbrev pub after : Spoken → Said → Spoken
 after so_far Nothing = so_far
-after so_far (Operand word) = record { operands = so_far.operands ++ word ∷ []; settings = so_far.settings }
-after so_far (Set setting) = record { operands = so_far.operands; settings = so_far.settings ++ setting ∷ [] }
+after so_far (Operand word) =
+    record { operands = so_far.operands ++ word ∷ []; settings = so_far.settings }
+after so_far (Set setting) =
+    record { operands = so_far.operands; settings = so_far.settings ++ setting ∷ [] }
 
 abbrev pub at_end : Next → Option Spoken
 at_end Anything = Some nothing_spoken
@@ -146,7 +155,8 @@ word_first (Some read) more = option_map (also read.said) (more read.next)
 -- what the words of a tool say, by what may come first; nothing where they are of no form
 abbrev pub words_read : Row → Next → List (List ℕ) → Option Spoken
 words_read form next [] = at_end next
-words_read form next (word ∷ words) = word_first (word_read form next word) (λ next. words_read form next words)
+words_read form next (word ∷ words) =
+    word_first (word_read form next word) (λ next. words_read form next words)
 
 -- each option stands once
 abbrev pub same_choice : Choice → Choice → Bool
@@ -163,7 +173,9 @@ are_once (s ∷ ss) = not (is_set s.choice ss) && are_once ss
 
 -- neither too few operands nor too many, and each option once
 abbrev pub fits : Row → Spoken → Bool
-fits form spoken = nat_le form.fewest (length spoken.operands) && nat_le (length spoken.operands) form.most && are_once spoken.settings
+fits form spoken =
+    nat_le form.fewest (length spoken.operands) && nat_le (length spoken.operands) form.most
+    && are_once spoken.settings
 
 abbrev pub fitting : Row → Spoken → Option Spoken
 fitting form spoken = if fits form spoken then Some spoken else None

@@ -14,7 +14,8 @@ dashes = codes "--"
 abbrev pub is_dashes : List ℕ → Bool
 is_dashes word = bytes_eq word dashes
 
--- words that say this by themselves: no option at their end is without its value, and none of them ends the options
+-- words that say this by themselves: no option at their end is without its value, and none of them
+-- ends the options
 pub record AreWhole (form : Row) (words : List (List ℕ)) (said : Spoken) : Type 0 where
   pub read : words_read form Anything words ≡ Some said
   pub undashed : list_any is_dashes words ≡ false
@@ -23,8 +24,10 @@ pub record AreWhole (form : Row) (words : List (List ℕ)) (said : Spoken) : Typ
 abbrev pub OptionsHaveNoOrder : Type 0
 OptionsHaveNoOrder = (name : List ℕ) (form : Row) → form_named name ≡ Some form
     → (before options others after : List (List ℕ)) (so_far these those : Spoken)
-    → AreWhole form before so_far → AreWhole form options these → AreWhole form others those → these.operands ≡ []
-    → command_of (name ∷ (before ++ (options ++ (others ++ after)))) ≡ command_of (name ∷ (before ++ (others ++ (options ++ after))))
+    → AreWhole form before so_far → AreWhole form options these → AreWhole form others those
+    → these.operands ≡ []
+    → command_of (name ∷ (before ++ (options ++ (others ++ after))))
+    ≡ command_of (name ∷ (before ++ (others ++ (options ++ after))))
 
 -- a value may stand behind an equals sign, or be the next word
 abbrev pub ValuesAreSaidInTwoWays : Type 0
@@ -36,6 +39,8 @@ ValuesAreSaidInTwoWays = (name : List ℕ) (form : Row) → form_named name ≡ 
 
 -- behind the word that ends the options each word is an operand, but an empty one
 abbrev pub WordsBehindDashesAreOperands : Type 0
-WordsBehindDashesAreOperands = (form : Row) (before after : List (List ℕ)) (so_far : Spoken) → AreWhole form before so_far
+WordsBehindDashesAreOperands = (form : Row) (before after : List (List ℕ)) (so_far : Spoken)
+    → AreWhole form before so_far
     → words_read form Anything (before ++ dashes ∷ after)
-    ≡ (if list_any is_empty after then None else Some (record { operands = so_far.operands ++ after; settings = so_far.settings }))
+    ≡ (if list_any is_empty after then None
+      else Some (record { operands = so_far.operands ++ after; settings = so_far.settings }))

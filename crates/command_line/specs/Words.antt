@@ -51,7 +51,8 @@ with_options tool operands options = record { tool = tool; operands = operands; 
 
 -- what the operands and options of a tool's form ask for
 abbrev pub chosen_of : Row → Spoken → Option Request
-chosen_of form spoken = option_map (with_options form.tool spoken.operands) (options_in spoken.settings)
+chosen_of form spoken =
+    option_map (with_options form.tool spoken.operands) (options_in spoken.settings)
 
 -- the same of any operands and options: nothing where they are not of the form
 abbrev pub request_of : Row → Spoken → Option Request
@@ -64,7 +65,8 @@ formed form (Some x) = Ok x
 
 abbrev pub command_with : Option Row → List (List ℕ) → Result Request Fault
 command_with None words = Err NoTool
-command_with (Some form) words = formed form (option_and_then (request_of form) (words_read form Anything words))
+command_with (Some form) words =
+    formed form (option_and_then (request_of form) (words_read form Anything words))
 
 -- what the words ask for, or that they are of no form
 abbrev pub command_of : List (List ℕ) → Result Request Fault

@@ -12,7 +12,8 @@ pub fn values_are_said_in_two_ways()
     ensures { ValuesAreSaidInTwoWays }
 {}
 
-/// Behind `--` each word is an operand, with a dash in front or without, and an empty one is refused.
+/// Behind `--` each word is an operand, with a dash in front or without, and an empty one is
+/// refused.
 #[tactic(auto, using(crate::proofs::Wholes::behind_dashes))]
 pub fn words_behind_dashes_are_operands()
     ensures { WordsBehindDashesAreOperands }

@@ -1,4 +1,5 @@
-//! What the words of the command line say: tools and their forms, options, arguments, and what they ask for.
+//! What the words of the command line say: tools and their forms, options, arguments, and what they
+//! ask for.
 #![tactic(auto)]
 
 mod arguments;

@@ -8,7 +8,8 @@ use command_line::{Arguments, Command, Form, Next};
 use faults::Fault;
 use std::alloc::Global;
 
-/// What the words ask for, or the refusal of words that are of no form. The words are those after the program's name.
+/// What the words ask for, or the refusal of words that are of no form. The words are those after
+/// the program's name.
 pub fn command_of(alloc: Global, words: &[String]) -> Result<Command, Fault>
     ensures { IsDue (command_of (spoken words.now)) result }
 {
@@ -27,7 +28,8 @@ pub fn command_of(alloc: Global, words: &[String]) -> Result<Command, Fault>
 
 // What the words after a tool's name say, however often and however many.
 fn words_read(alloc: Global, form: &Form, words: &[String]) -> Result<Arguments, Fault>
-    ensures { IsDue (formed form.now (words_read form.now Next.Anything (spoken words.now))) result }
+    ensures { IsDue
+        (formed form.now (words_read form.now Next.Anything (spoken words.now))) result }
 {
     let mut arguments = Arguments::new(alloc);
     let mut next = Next::Anything;

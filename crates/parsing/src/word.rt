@@ -24,8 +24,8 @@ pub fn word_read(alloc: Global, form: &Form, next: Next, word: &str) -> Result<W
     }
 }
 
-// Whether a word may be an operand or the value of an option: it is not empty, and begins with no dash unless it is the
-// dash itself.
+// Whether a word may be an operand or the value of an option: it is not empty, and begins with no
+// dash unless it is the dash itself.
 fn is_plain(word: &str) -> bool
     ensures { result ≡ is_plain word.now }
 {
@@ -93,7 +93,9 @@ fn operand_read(alloc: Global, word: &str, next: Next) -> Result<WordRead, Fault
 }
 
 fn set_read(alloc: Global, choice: Choice, value: &str) -> Result<WordRead, Fault>
-    ensures { IsDue (Ok (record { said = Said.Set (record { choice = choice; value = Some value.now }); next = Next.Anything })) result }
+    ensures { IsDue (Ok (record {
+        said = Said.Set (record { choice = choice; value = Some value.now });
+        next = Next.Anything })) result }
 {
     let value = Name::of(alloc, value)?;
     let setting = Setting {

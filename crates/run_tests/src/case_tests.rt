@@ -1,4 +1,5 @@
-//! With ample memory each case is answered: every modulus, every dimension, the least and the greatest degree.
+//! With ample memory each case is answered: every modulus, every dimension, the least and the
+//! greatest degree.
 use crate::rows::{DONE, Row, all_answer, answers};
 use field_mod::MODULI;
 use std::alloc::Global;
@@ -83,7 +84,8 @@ const CUBES: [(&str, &str); 9] = [
     ),
     (
         "of 3",
-        "[(0 0 0)(0 1 1)] [(1 0 0)(1 1 1)] [(0 0 0)(1 0 1)] [(0 1 0)(1 1 1)] [(0 0 0)(1 1 0)] [(0 0 1)(1 1 1)]",
+        "[(0 0 0)(0 1 1)] [(1 0 0)(1 1 1)] [(0 0 0)(1 0 1)] [(0 1 0)(1 1 1)] \
+         [(0 0 0)(1 1 0)] [(0 0 1)(1 1 1)]",
     ),
     (
         "of 4",

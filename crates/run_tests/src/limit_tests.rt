@@ -35,6 +35,12 @@ fn the_limit_of_cubes_is_exact(rt: HostRuntime) -> Result<(), Fail> {
         let status = status_over(&rt, alloc, &["cubcells", "row"], "row", text)?;
         assert_eq!(rt; status, wanted);
     }
+    Ok(())
+}
+
+#[test]
+fn the_limit_of_members_is_exact(rt: HostRuntime) -> Result<(), Fail> {
+    let alloc = rt.alloc();
     for (count, wanted) in [(1_048_576, Status::Done), (1_048_577, Status::Limit)] {
         let text = edges(alloc, count)?;
         let status = status_over(&rt, alloc, &["cubinter", "row", "row"], "row", text)?;
@@ -43,10 +49,14 @@ fn the_limit_of_cubes_is_exact(rt: HostRuntime) -> Result<(), Fail> {
     Ok(())
 }
 
-// The text of cubes of dimension 4 apart from each other, and of what has the given number of cells besides: a cube of
-// dimension 3, a square, edges and points have 27, 9, 3 and 1.
-fn cubes_apart(alloc: Global, count: u32, more: &[u8]) -> Result<Vec<u8>, Fail> {
-    let mut text = Vec::from_slice(alloc, more)?;
+// A cube of dimension 3, a square, two edges and a point, apart from each other: 43 cells.
+const FEW_CELLS: &str = "[(0 9 0 0)(0 10 1 1)] [(2 9 0 0)(2 9 1 1)] [(4 9 0 0)(4 9 0 1)] \
+     [(6 9 0 0)(6 9 0 1)] [(8 9 0 0)(8 9 0 0)]";
+
+// The text of cubes of dimension 4 apart from each other, of 81 cells each, and of more.
+fn cubes_apart(alloc: Global, count: u32, more: &str) -> Result<Vec<u8>, Fail> {
+    let mut text = Vec::from_slice(alloc, FEW_CELLS.as_bytes())?;
+    text.extend_from_slice(more.as_bytes())?;
     for n in 0..count {
         text.push(b'(')?;
         put_number(&mut text, i64::from(n) * 2)?;
@@ -55,17 +65,11 @@ fn cubes_apart(alloc: Global, count: u32, more: &[u8]) -> Result<Vec<u8>, Fail> 
     Ok(text)
 }
 
-// 51,781 cubes of 81 cells each, and 43 or 44 cells besides.
 #[test]
 fn the_limit_of_cells_is_exact(rt: HostRuntime) -> Result<(), Fail> {
     let alloc = rt.alloc();
-    let at =
-        "[(0 9 0 0)(0 10 1 1)] [(2 9 0 0)(2 9 1 1)] [(4 9 0 0)(4 9 0 1)] [(6 9 0 0)(6 9 0 1)] [(8 9 0 0)(8 9 0 0)]";
-    let past =
-        "[(0 9 0 0)(0 10 1 1)] [(2 9 0 0)(2 9 1 1)] [(4 9 0 0)(4 9 0 1)] [(6 9 0 0)(6 9 0 1)] [(8 9 0 0)(8 9 0 0)] \
-        [(9 9 0 0)(9 9 0 0)]";
-    for (more, wanted) in [(at, Status::Done), (past, Status::Limit)] {
-        let text = cubes_apart(alloc, 51_781, more.as_bytes())?;
+    for (more, wanted) in [("", Status::Done), ("[(9 9 0 0)(9 9 0 0)]", Status::Limit)] {
+        let text = cubes_apart(alloc, 51_781, more)?;
         let status = status_over(&rt, alloc, &["homcubes", "apart"], "apart", text)?;
         assert_eq!(rt; status, wanted);
     }

@@ -1,4 +1,5 @@
-//! Whole runs in which memory may be wanting. tools/fail_alloc.sh refuses each of their allocations in turn.
+//! Whole runs in which memory may be wanting. tools/fail_alloc.sh refuses each of their allocations
+//! in turn.
 use crate::rows::{Row, held, words_of};
 use all_tools::run;
 use faults::Status;
@@ -80,7 +81,8 @@ const REFUSALS: [Row<'static>; 4] = [
     },
 ];
 
-// The right answer; or want of memory and nothing on `out`. A sink in memory counts a write for which it has none itself.
+// The right answer; or want of memory and nothing on `out`. A sink in memory counts a write for
+// which it has none itself.
 fn answers_or_wants_memory<R: Threads + Abort>(
     rt: &R,
     alloc: Global,
