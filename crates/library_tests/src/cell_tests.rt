@@ -1,5 +1,5 @@
 //! Signs, orders and ranges on small cells.
-use elem_cubes::{Cell, Corner, HIGH, LOW};
+use elem_cubes::{Cell, Corner, HIGH, LOW, range_is_of_the_formats};
 use std::process::Abort;
 use std::test::Fail;
 
@@ -160,4 +160,9 @@ fn an_edge_in_the_plane_has_ends_and_moves(rt: HostRuntime) -> Result<(), Fail> 
     assert!(rt; edge.moved_up(1) == cell(&rt, &[0, 6], 2));
     assert!(rt; edge.moved_down(1) == cell(&rt, &[0, 4], 2));
     Ok(())
+}
+
+#[test]
+fn the_numbers_of_the_range_are_those_of_the_formats() {
+    range_is_of_the_formats();
 }
