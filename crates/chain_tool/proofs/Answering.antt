@@ -1,5 +1,5 @@
 -- From the text of a chain file to an answer.
-use Rattle.std.proofs.Common.{◌≡◌, ℕ, [], ◌∷◌, List, Result, Ok, Err, IfOk, IfErr, refl, sym, ap, ◌∙◌, subst, ◌⊎◌, inl, inr}
+use Rattle.std.proofs.Common.{◌≡◌, ℕ, List, Result, Ok, Err, IfOk, IfErr, ap, ◌∙◌, ◌⊎◌, inl, inr}
 use Rattle.outside.specs.Seen.{Seen}
 use Rattle.chain_files.specs.Content.{Content}
 use Rattle.basis_reports.specs.Right.{IsRightFile, AreAsShown}

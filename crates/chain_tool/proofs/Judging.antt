@@ -15,7 +15,7 @@ use Rattle.loading.specs.Jobs.{HasOneJudgement}
 use Rattle.loading.proofs.Steps.{then_one}
 use Rattle.loading.proofs.OfFiles.{IsPlain, IsMade, IsOfFiles, made, of_file, then_files}
 use Rattle.loading.proofs.Loading.{named_itself}
-use Rattle.loading.proofs.Judging.{IsSettled, judged_once}
+use Rattle.loading.proofs.Judging.{judged_once}
 use Rattle.chain_tool.specs.declared.homchain.ChainJob.{ChainJob}
 use Rattle.chain_tool.specs.Contents.{chain_fault, IsValueOf, IsComplexOf, IsContentOf, IsContentIn}
 use Rattle.chain_tool.specs.Jobs.{chain_job}

@@ -4,7 +4,7 @@ use Rattle.chains.specs.ChainComplex.{ChainComplex, IsComplex}
 use Rattle.chain_files.specs.Complexes.{AreCountsBelow}
 use Rattle.basis_reports.specs.ByDegree.{AreByDegree, numbers_from}
 use Rattle.basis_reports.specs.Counting.{HasBases}
-use Rattle.basis_reports.specs.Right.{IsRightFile, AreAsShown}
+use Rattle.basis_reports.specs.Right.{IsRightFile}
 use Rattle.basis_reports.proofs.RightBases.{file_names, right_file_basis}
 use Rattle.basis_reports.proofs.RightPairs.{right_file}
 use Rattle.basis_reports.proofs.Showing.{shown_whole, left_out}

@@ -1,8 +1,7 @@
-use Rattle.std.proofs.Common.{ℕ, List, arith, sym, subst, ◌∙◌, length, ap}
-use Rattle.elem_cubes.specs.Cells.{Factor}
+use Rattle.std.proofs.Common.{arith, sym, subst, ◌∙◌, length, ap}
 use Rattle.algebraic_reduction.specs.LogWords.{Reduced}
 use Rattle.cell_complex.specs.Numbering.{IsRelativeComplex}
-use Rattle.basis_reports.specs.Right.{IsRightPair, AreAsShown}
+use Rattle.basis_reports.specs.Right.{IsRightPair}
 use Rattle.basis_reports.proofs.RightBases.{right_basis, cell_names}
 use Rattle.basis_reports.proofs.RightPairs.{right_pair}
 use Rattle.basis_reports.proofs.Showing.{shown_whole, left_out}
