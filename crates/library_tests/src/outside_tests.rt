@@ -129,14 +129,13 @@ fn long_text(alloc: Global) -> Result<Vec<u8>, Fail> {
     Ok(bytes)
 }
 
-// What a file that holds these bytes gives from a place on: as many as there is room for, up to the
-// end.
-fn gives<F: Files>(rt: &impl Abort, files: &mut F, name: &str, bytes: &[u8], at: usize)
-    requires { at ≤ 2 ^ 30 }
-{
+// What a file that holds these bytes gives from a place on, at most 2 ^ 30: as many as there is room
+// for, up to the end.
+fn gives<F: Files>(rt: &impl Abort, files: &mut F, name: &str, bytes: &[u8], at: usize) {
+    let at = at.min(1 << 30);
     let mut block = [0u8; 4096];
     let start = at.min(bytes.len());
-    let end = (at + block.len()).min(bytes.len());
+    let end = (at + 4096).min(bytes.len());
     match files.read_at(name, at as u64, &mut block) {
         Ok(n) => {
             let found = &block[..n];
