@@ -1,6 +1,6 @@
 -- Inclusions by the homotopies of boundaries, rows by projections, and the way back of the homotopy: from the last step on, where
 -- the boundary of each b goes down the rows of the steps before it.
-use Rattle.std.proofs.Common.{◌≡◌, ◌≢◌, ℕ, zero, suc, ◌+◌, ◌-◌, ◌*◌, ◌<◌, ◌≤◌, ◌⊎◌, refl, sym, ap, ◌∙◌, arith, ⊎_elim, List, [], ◌∷◌, ◌++◌, length, take, cond, eqb, eq-eqb, ne_eqb, true, false, subst}
+use Rattle.std.proofs.Common.{◌≡◌, ◌≢◌, ℕ, zero, suc, ◌+◌, ◌-◌, ◌*◌, ◌<◌, ◌≤◌, ◌⊎◌, refl, sym, ap, ◌∙◌, arith, ⊎_elim, List, [], ◌∷◌, ◌++◌, length, take, cond, eqb, eq-eqb, ne_eqb, true, false, Bool, subst}
 use Rattle.std.proofs.lemmas.Bool.{cases_eq, cases_lt}
 use Rattle.std.proofs.lemmas.List.{length-take-le, get_or-take}
 use Rattle.field_mod.specs.Sums.{total}
@@ -207,7 +207,7 @@ module _ (p n : ℕ) (degree : ℕ → ℕ) (two : 2 ≤ p) where
             (same_trans (same_by p (number * H) 0 _ (coefficient terms g + number * (I i + H) + (total i f + (p - 1) * number * H)) (positive (coefficient terms g) (total bound f) (total i f) (I i) H (c1 ∙ c2 ∙ ap (λ v. total i f + v) c3)))
             (same-add (same_sym (same_trans (exact p _ _ own) (same-add (same_refl p (coefficient terms g)) one))) (same_sym ahead)))
           where
-            scaled : (v : Rattle.std.proofs.Common.Bool) → coefficient terms g + (cond v number 0 + 0) ≡ coefficient terms g + number * cond v 1 0
+            scaled : (v : Bool) → coefficient terms g + (cond v number 0 + 0) ≡ coefficient terms g + number * cond v 1 0
             scaled true = omega arith
             scaled false = omega arith
 

@@ -16,12 +16,7 @@ use field_mod::Field;
 use std::alloc::{AllocError, Global};
 
 /// The step from `from` on and before `bound` whose a the generator is.
-fn step_of_a<const P: u16>(
-    parts: &Parts<P>,
-    generator: u32,
-    from: u32,
-    bound: u32,
-) -> Option<u32>
+fn step_of_a<const P: u16>(parts: &Parts<P>, generator: u32, from: u32, bound: u32) -> Option<u32>
     requires state { IsState P parts.now.complex parts.now.places.items parts.now.steps.items }
     ensures some { IfSome result (λ i. (from ≤ i) × (i < bound) × (a_at parts.now.steps.items i ≡ generator)) }
     ensures found { (i : ℕ) → from ≤ i → i < bound → i < length parts.now.steps.items → a_at parts.now.steps.items i ≡ generator → result ≡ Some i }
@@ -112,16 +107,7 @@ pub fn descend<const P: u16>(
     let mut pending = Numbers::new(alloc, field);
     let mut left = Vec::new(alloc);
     let mut raised = Vec::new(alloc);
-    spread(
-        parts,
-        field,
-        start,
-        1,
-        0,
-        bound,
-        &mut pending,
-        &mut left,
-    )?;
+    spread(parts, field, start, 1, 0, bound, &mut pending, &mut left)?;
     let mut from = 0;
     'descending: while let Some((place, number)) = pending.take_first() {
         let step = &parts.steps[place as usize];

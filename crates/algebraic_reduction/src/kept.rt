@@ -34,12 +34,7 @@ impl<const P: u16> Kept<P> {
         requires row { IsNormal P row }
         ensures { result ≡ record { step = record { a = a; b = b; inverse = inverse }; row = row.entry } }
     {
-        Kept {
-            row,
-            a,
-            b,
-            inverse,
-        }
+        Kept { row, a, b, inverse }
     }
 
     /// The generator whose boundary the step takes.

@@ -87,15 +87,7 @@ pub fn homotopy<const P: u16>(
     let mut bound = count;
     'returning: while let Some((after, number)) = pending.take_first() {
         let place = count - 1 - after;
-        go_back(
-            parts,
-            alloc,
-            field,
-            place,
-            number,
-            count,
-            &mut pending,
-        )?;
+        go_back(parts, alloc, field, place, number, count, &mut pending)?;
         terms.push((parts.steps[place as usize].b(), number))?;
         bound = place;
     }

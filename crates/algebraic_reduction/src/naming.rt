@@ -39,10 +39,7 @@ fn empty_lists(alloc: Global, count: u32) -> Result<Vec<Generators>, AllocError>
 }
 
 /// Names the b of each step in the lists at the generators of its row.
-fn name_steps<const P: u16>(
-    steps: &[Kept<P>],
-    lists: &mut [Generators],
-) -> Result<(), AllocError>
+fn name_steps<const P: u16>(steps: &[Kept<P>], lists: &mut [Generators]) -> Result<(), AllocError>
     ensures { OnOk result ((i g : ℕ) → i < length steps.now → g < length lists.new → NonZero P (row_at steps.now i g) → Names lists.new g (b_at steps.now i)) }
 {
     for place in 0..steps.len() {

@@ -174,7 +174,6 @@ fn reduce_if<const P: u16>(
 }
 
 /// The inclusion of a generator, where it is one of what is left.
-#[tactic(auto, using(algebraic_reduction::proofs::Dimension::generator_on_left))]
 fn include_if<const P: u16>(
     alloc: Global,
     log: &Log<P>,

@@ -1,4 +1,4 @@
-use Rattle.std.proofs.Common.{arith, ap, sym, ◌∙◌, ◌≡◌, ◌<◌, ℕ, List, [], length, get_or, subst}
+use Rattle.std.proofs.Common.{arith, ap, sym, ◌∙◌, ◌≡◌, ◌<◌, take, ℕ, List, [], length, get_or, subst}
 use Rattle.std.proofs.lemmas.List.{get_or_default}
 use Rattle.field_mod.proofs.Table.{two_le}
 use Rattle.chains.specs.Terms.{coefficient}
@@ -28,7 +28,7 @@ returns-clause-sum g c =
     let eb : c.b-b.result ≡ b_at p.steps.items c.args.place = c.b-b.ensures ∙ ap (λ (k : KeptStep). k.step.b) step in
     back_sum g.row.P c.args.place c.args.count c.args.number c.neg.result p.complex p.places.items p.steps.items c.boundary.result.now d.left.items c.deref.result.now c.args.pending.now c.turn_back.new.pending l c.requires.below c.neg.ensures.value
     (c.boundary.ensures.value ∙ ap (λ (x : ℕ). get_or p.complex.boundaries x []) eb)
-    (subst (λ (ts : List (ℕ × ℕ)). HasDescended g.row.P (incidence p.complex.boundaries) p.places.items (Rattle.std.proofs.Common.take c.args.place p.steps.items) (coefficient c.boundary.result.now) d.left.items ts) (sym c.deref.ensures.value) c.in_ok-descended.ensures)
+    (subst (λ (ts : List (ℕ × ℕ)). HasDescended g.row.P (incidence p.complex.boundaries) p.places.items (take c.args.place p.steps.items) (coefficient c.boundary.result.now) d.left.items ts) (sym c.deref.ensures.value) c.in_ok-descended.ensures)
     c.requires.inside c.in_ok-turn_back.ensures.sum
 
 pub returns-clause-inside : goal.returns-clause-inside
@@ -40,5 +40,5 @@ returns-clause-inside g c =
     let eb : c.b-b.result ≡ b_at p.steps.items c.args.place = c.b-b.ensures ∙ ap (λ (k : KeptStep). k.step.b) step in
     back_inside g.row.P c.args.place c.args.count c.args.number c.neg.result p.complex p.places.items p.steps.items c.boundary.result.now d.left.items c.deref.result.now c.args.pending.now c.turn_back.new.pending l c.requires.below c.neg.ensures.value
     (c.boundary.ensures.value ∙ ap (λ (x : ℕ). get_or p.complex.boundaries x []) eb)
-    (subst (λ (ts : List (ℕ × ℕ)). HasDescended g.row.P (incidence p.complex.boundaries) p.places.items (Rattle.std.proofs.Common.take c.args.place p.steps.items) (coefficient c.boundary.result.now) d.left.items ts) (sym c.deref.ensures.value) c.in_ok-descended.ensures)
+    (subst (λ (ts : List (ℕ × ℕ)). HasDescended g.row.P (incidence p.complex.boundaries) p.places.items (take c.args.place p.steps.items) (coefficient c.boundary.result.now) d.left.items ts) (sym c.deref.ensures.value) c.in_ok-descended.ensures)
     c.requires.inside c.in_ok-turn_back.ensures.inside

@@ -1,4 +1,4 @@
-use Rattle.std.proofs.Common.{arith, ap, sym, ◌∙◌, ◌≡◌, ◌≢◌, ◌+◌, ◌-◌, ◌*◌, ◌%◌, ◌<◌, ◌≤◌, ◌⊎◌, ℕ, List, [], length, subst}
+use Rattle.std.proofs.Common.{arith, ap, sym, ◌∙◌, ◌≡◌, ◌≢◌, ◌+◌, ◌-◌, ◌*◌, ◌%◌, ◌<◌, ◌≤◌, ◌⊎◌, take, ℕ, List, [], length, subst}
 use Rattle.std.proofs.lemmas.List.{get_or_default}
 use Rattle.field_mod.specs.Modular.{Same, minus}
 use Rattle.field_mod.proofs.Table.{two_le}
@@ -23,7 +23,7 @@ returning-init g c =
     let ec : c.len-count.result ≡ length p.steps.items = c.len-count.ensures ∙ p.steps.ok.0 in
     subst (λ (m : ℕ). Returning g.row.P (length p.complex.boundaries) (incidence p.complex.boundaries) p.steps.items (coefficient c.args.chain.now) c.new-terms.result.items c.turn_back.new.pending m) (sym ec)
     (returning_begin g.row.P (two_le g.row.P c.args.field.listed) c.len-count.result p.complex p.places.items p.steps.items c.requires.state c.args.chain.now d.left.items c.deref.result.now c.new-pending.result c.turn_back.new.pending c.new-terms.result.items ec
-    (subst (λ (ts : List (ℕ × ℕ)). HasDescended g.row.P (incidence p.complex.boundaries) p.places.items (Rattle.std.proofs.Common.take c.len-count.result p.steps.items) (coefficient c.args.chain.now) d.left.items ts) (sym c.deref.ensures.value) c.in_ok-descended.ensures)
+    (subst (λ (ts : List (ℕ × ℕ)). HasDescended g.row.P (incidence p.complex.boundaries) p.places.items (take c.len-count.result p.steps.items) (coefficient c.args.chain.now) d.left.items ts) (sym c.deref.ensures.value) c.in_ok-descended.ensures)
     c.new-pending.ensures c.new-terms.ensures.items c.in_ok-turn_back.ensures.sum c.in_ok-turn_back.ensures.inside)
 
 pub returning-preserved : goal.returning-preserved
