@@ -363,19 +363,18 @@ fn first_step<const P: u16>(alloc: Global, complex: Complex<P>) -> Result<((u32,
     Ok((log.step(0), count))
 }
 
-// The second triangle shares its edges with others; the first has one of its own, the edge of 1 and 2.
+// The edge of 1 and 3 is in the first triangle alone, and those of 0 are in two.
 #[test]
 fn a_free_pair_comes_first(rt: HostRuntime) -> Result<(), Fail> {
     let alloc = rt.alloc();
     let complex = surface::<3>(alloc, 4, &[(0, 1, 3), (0, 1, 2), (0, 2, 3)])?;
     let (step, count) = first_step(alloc, complex)?;
-    assert_eq!(rt; step, (edge(4, 1, 2)?, 11));
+    assert_eq!(rt; step, (edge(4, 1, 3)?, 10));
     assert_eq!(rt; count, 6);
     Ok(())
 }
 
-// Both ends of the first edge are in no row yet: the last one is taken. So is that of the second edge, 2; the third edge then
-// comes down to 0, which is in two rows by then, and to 3, which is in none.
+// Neither end of the first edge is in a row yet: the last one is taken.
 #[test]
 fn the_lightest_column_comes_first(rt: HostRuntime) -> Result<(), Fail> {
     let alloc = rt.alloc();
