@@ -1,17 +1,16 @@
 -- An acyclic part that is reduced in itself until no boundary is left in it is gone
-use Rattle.std.proofs.Common.{◌≡◌, ◌≢◌, ℕ, ◌+◌, ◌-◌, ◌*◌, ◌<◌, ◌≤◌, refl, sym, ap, ◌∙◌, arith, ⊎_elim, List, [], ◌∷◌, length, Bool, true, false, cond, eqb, eq-eqb, ne_eqb}
+use Rattle.std.proofs.Common.{◌≡◌, ◌≢◌, ℕ, ◌+◌, ◌-◌, ◌*◌, ◌<◌, ◌≤◌, refl, sym, ap, ◌∙◌, arith, ⊎_elim, List, [], ◌∷◌, length, Bool, true, false, cond, eq-eqb, ne_eqb}
 use Rattle.std.proofs.lemmas.Bool.{cases_Bool}
 use Rattle.field_mod.specs.Modular.{Same}
-use Rattle.field_mod.proofs.Sums.{total-same, total-zero, total_same, total-single}
+use Rattle.field_mod.proofs.Sums.{total-zero, total_same}
 use Rattle.field_mod.proofs.Modular.{same_by, same_refl, same_sym, same_trans, same-add, same-scale, same-mul, one_nonzero}
 use Rattle.chains.specs.ChainComplex.{incidence}
-use Rattle.algebraic_reduction.specs.Reduction.{boundary_by, single, project, include, Step, AreSteps, IsBoundary, IsUnpaired, IsOnLeft, left, left_all, include_all, project_all}
-use Rattle.algebraic_reduction.proofs.OneStep.{eqb_sym}
+use Rattle.algebraic_reduction.specs.Reduction.{boundary_by, single, project, include, Step, AreSteps, IsBoundary, IsUnpaired, left, left_all, include_all, project_all}
 use Rattle.algebraic_reduction.proofs.Steps.{log_round_trip, log_include-boundary, log_project-boundary, log_combination, include_all-same, project_all-same, include-degree}
 use Rattle.algebraic_reduction.proofs.Linear.{left_all_is_boundary}
 use Rattle.algebraic_reduction.proofs.Bridge.{grade, grade_in, is_boundary}
 use Rattle.algebraic_reduction.specs.Restrictions.{IsOnPart, IsClosedPart, AreWithin, AcyclicPartsAreTaken}
-use Rattle.algebraic_reduction.proofs.LinearMaps.{exact, single-other, total_picked_other}
+use Rattle.algebraic_reduction.proofs.LinearMaps.{exact, total_picked_other}
 use Rattle.algebraic_reduction.proofs.Singles.{single_left}
 use Rattle.algebraic_reduction.proofs.Restrictions.{apart, closed_left, closed_all, left_all-parts, steps_parts, unpaired_parts}
 

@@ -1,14 +1,14 @@
 -- From state to state: steps are added, and where nothing is left of a boundary nothing comes back.
-use Rattle.std.proofs.Common.{◌≡◌, ◌≢◌, ℕ, zero, suc, ◌+◌, ◌-◌, ◌*◌, ◌%◌, ◌<◌, ◌≤◌, ◌⊎◌, inl, inr, refl, sym, ap, ◌∙◌, arith, ⊎_elim, List, [], ◌∷◌, ◌++◌, length, get_or, cond, eqb, eq-eqb, ne_eqb, subst, Option, Some, None, true≢false, true, false, append_assoc, Bool}
+use Rattle.std.proofs.Common.{◌≡◌, ℕ, ◌+◌, ◌-◌, ◌*◌, ◌<◌, ◌≤◌, refl, sym, ap, ◌∙◌, arith, ⊎_elim, List, [], ◌∷◌, ◌++◌, length, cond, eqb, eq-eqb, subst, Option, Some, None, true≢false, true, false, append_assoc}
 use Rattle.std.specs.Prelude.{is_some}
 use Rattle.std.proofs.lemmas.Bool.{cases_eq, cases_lt}
 use Rattle.field_mod.specs.Modular.{Same, NonZero, minus}
 use Rattle.field_mod.proofs.Modular.{same_by, same_refl, same_sym, same_trans, same-add, same-scale, same-mul}
 use Rattle.chains.specs.Terms.{coefficient}
-use Rattle.chains.specs.ChainComplex.{ChainComplex, IsComplex, incidence}
+use Rattle.chains.specs.ChainComplex.{ChainComplex, incidence}
 use Rattle.algebraic_reduction.specs.Reduction.{Step, IsUnpaired, left, left_all}
 use Rattle.algebraic_reduction.specs.Laws.{left_of, NothingLeft}
-use Rattle.algebraic_reduction.specs.LogWords.{IsOneMore, AreFurther}
+use Rattle.algebraic_reduction.specs.LogWords.{IsOneMore}
 use Rattle.algebraic_reduction.specs.Kept.{KeptStep, steps_of}
 use Rattle.algebraic_reduction.specs.State.{IsState, GoesOn}
 use Rattle.algebraic_reduction.proofs.Bridge.{grade, grade_in, grade_past, is_boundary}

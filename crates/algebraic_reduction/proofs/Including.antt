@@ -1,19 +1,19 @@
 -- Inclusions and homotopies as they are computed.
-use Rattle.std.proofs.Common.{◌≡◌, ◌≢◌, ℕ, ◌+◌, ◌-◌, ◌*◌, ◌%◌, ◌<◌, ◌≤◌, ◌⊎◌, refl, sym, ap, ◌∙◌, arith, ⊎_elim, inl, inr, List, [], ◌∷◌, ◌++◌, length, take, get_or, cond, eqb, subst, Option}
+use Rattle.std.proofs.Common.{◌≡◌, ◌≢◌, ℕ, ◌+◌, ◌-◌, ◌*◌, ◌%◌, ◌<◌, ◌≤◌, ◌⊎◌, ap, arith, ⊎_elim, inl, inr, List, [], length, take, get_or, subst, Option}
 use Rattle.std.proofs.lemmas.Bool.{cases_lt}
 use Rattle.std.proofs.lemmas.List.{length-take-le}
 use Rattle.field_mod.specs.Modular.{Same, minus}
-use Rattle.field_mod.proofs.Modular.{same_by, same_refl, same_sym, same_trans, same-add, same-scale, same-mul, neg_cancel}
+use Rattle.field_mod.proofs.Modular.{same_by, same_refl, same_sym, same_trans, same-add, same-mul, neg_cancel}
 use Rattle.chains.specs.Terms.{coefficient}
 use Rattle.chains.specs.ChainComplex.{ChainComplex, incidence, boundary}
-use Rattle.algebraic_reduction.specs.Reduction.{IsBoundary, IsOnLeft, project_all, include_all, homotopy_all}
+use Rattle.algebraic_reduction.specs.Reduction.{IsOnLeft}
 use Rattle.algebraic_reduction.specs.Laws.{include_of, homotopy_of}
-use Rattle.algebraic_reduction.specs.Kept.{KeptStep, steps_of, no_step, a_at, b_at, inverse_at}
+use Rattle.algebraic_reduction.specs.Kept.{KeptStep, steps_of, b_at}
 use Rattle.algebraic_reduction.specs.Maps.{weight_at, HasDescended}
 use Rattle.algebraic_reduction.specs.State.{IsState}
 use Rattle.algebraic_reduction.proofs.Bridge.{grade, is_boundary}
 use Rattle.algebraic_reduction.proofs.Steps.{homotopy_all-same}
-use Rattle.algebraic_reduction.proofs.Residues.{negated, reduced}
+use Rattle.algebraic_reduction.proofs.Residues.{reduced}
 use Rattle.algebraic_reduction.proofs.Returning.{included, weight_take, Returning, returning_first}
 
 -- the inclusion of a chain on what is left: the chain less the homotopy of its boundary

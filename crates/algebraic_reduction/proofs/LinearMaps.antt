@@ -1,11 +1,11 @@
 -- Maps of chains that are linear modulo p and tell only numbers modulo p apart: they go through finite sums, and so are
 -- given by what they give the generators.
-use Rattle.std.proofs.Common.{◌≡◌, ◌≢◌, ℕ, zero, suc, ◌+◌, ◌*◌, ◌<◌, ◌≤◌, ◌⊎◌, refl, sym, ap, ◌∙◌, arith, ⊎_elim, cond, eqb, eq-eqb, ne_eqb}
+use Rattle.std.proofs.Common.{◌≡◌, ◌≢◌, ℕ, zero, suc, ◌+◌, ◌*◌, ◌<◌, ◌≤◌, refl, sym, ap, ◌∙◌, arith, ⊎_elim, cond, eqb, eq-eqb, ne_eqb}
 use Rattle.std.proofs.lemmas.Bool.{cases_eq, cases_lt}
 use Rattle.field_mod.specs.Sums.{total}
 use Rattle.field_mod.specs.Modular.{Same}
-use Rattle.field_mod.proofs.Sums.{total-same, total-zero, total_same, total-single}
-use Rattle.field_mod.proofs.Modular.{same_by, same_refl, same_trans, same-add, same-scale}
+use Rattle.field_mod.proofs.Sums.{total-same, total-zero, total-single}
+use Rattle.field_mod.proofs.Modular.{same_by, same_refl, same_trans, same-add}
 use Rattle.algebraic_reduction.specs.Reduction.{single}
 use Rattle.algebraic_reduction.specs.Laws.{IsLinear}
 

@@ -1,11 +1,11 @@
 -- The transposed projection of a log, as the values that keep the equations of its rows.
-use Rattle.std.proofs.Common.{◌≡◌, ◌≢◌, ℕ, suc, ◌+◌, ◌-◌, ◌*◌, ◌%◌, ◌<◌, ◌≤◌, ◌⊎◌, inl, inr, refl, sym, ap, ◌∙◌, arith, ⊎_elim, List, [], ◌∷◌, length, cond, eqb, subst, Option, Some, None, true, Bool}
+use Rattle.std.proofs.Common.{◌≡◌, ◌≢◌, ℕ, suc, ◌+◌, ◌-◌, ◌*◌, ◌%◌, ◌<◌, ◌≤◌, ◌⊎◌, refl, sym, ap, ◌∙◌, arith, ⊎_elim, List, [], ◌∷◌, length, cond, eqb, subst, Option, Some, None, true, Bool}
 use Rattle.std.proofs.lemmas.Bool.{cases_eq, cases_lt}
 use Rattle.std.proofs.lemmas.List.{get_or_past}
 use Rattle.field_mod.specs.Sums.{total}
 use Rattle.field_mod.specs.Modular.{Same, NonZero, minus}
 use Rattle.field_mod.proofs.Sums.{total-same}
-use Rattle.field_mod.proofs.Modular.{same_by, same_sym, same_trans, same-scale}
+use Rattle.field_mod.proofs.Modular.{same_by, same_trans, same-scale}
 use Rattle.chains.specs.Terms.{coefficient, product, IsNormal}
 use Rattle.chains.specs.ChainComplex.{ChainComplex, incidence}
 use Rattle.algebraic_reduction.specs.Reduction.{IsBoundary, IsOnLeft, single}

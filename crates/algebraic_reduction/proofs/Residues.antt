@@ -1,7 +1,7 @@
 -- Numbers that are kept modulo p.
-use Rattle.std.proofs.Common.{◌≡◌, ◌≢◌, ℕ, ◌+◌, ◌-◌, ◌*◌, ◌/◌, ◌%◌, ◌^◌, ◌<◌, ◌≤◌, sym, ap, ◌∙◌, arith, List, mod-eq_of_lt}
+use Rattle.std.proofs.Common.{◌≡◌, ℕ, ◌+◌, ◌-◌, ◌*◌, ◌/◌, ◌%◌, ◌^◌, ◌<◌, ◌≤◌, sym, ◌∙◌, arith, List, mod-eq_of_lt}
 use native.Mathlib.Nat.{zero-mod}
-use Rattle.field_mod.specs.Modular.{Same, NonZero}
+use Rattle.field_mod.specs.Modular.{Same}
 use Rattle.field_mod.proofs.Modular.{same_by, neg_cancel}
 use Rattle.chains.specs.Terms.{coefficient, IsNormal}
 use Rattle.chains.proofs.TermLists.{coefficient-lt}

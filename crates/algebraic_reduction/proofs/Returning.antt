@@ -1,7 +1,7 @@
 -- Inclusions by the homotopies of boundaries, rows by projections, and the way back of the homotopy: from the last step on, where
 -- the boundary of each b goes down the rows of the steps before it.
-use Rattle.std.proofs.Common.{◌≡◌, ◌≢◌, ℕ, zero, suc, ◌+◌, ◌-◌, ◌*◌, ◌<◌, ◌≤◌, ◌⊎◌, refl, sym, ap, ◌∙◌, arith, ⊎_elim, List, [], ◌∷◌, ◌++◌, length, take, cond, eqb, eq-eqb, ne_eqb, true, false, Bool, subst}
-use Rattle.std.proofs.lemmas.Bool.{cases_eq, cases_lt}
+use Rattle.std.proofs.Common.{◌≡◌, ◌≢◌, ℕ, zero, suc, ◌+◌, ◌-◌, ◌*◌, ◌<◌, ◌≤◌, ◌⊎◌, sym, ap, ◌∙◌, arith, ⊎_elim, List, [], ◌∷◌, ◌++◌, length, take, cond, eqb, eq-eqb, ne_eqb, true, false, Bool, subst}
+use Rattle.std.proofs.lemmas.Bool.{cases_eq}
 use Rattle.std.proofs.lemmas.List.{length-take-le, get_or-take}
 use Rattle.field_mod.specs.Sums.{total}
 use Rattle.field_mod.specs.Modular.{Same, minus}
@@ -9,9 +9,9 @@ use Rattle.field_mod.proofs.Sums.{total-same, total-zero, total-add, total-scale
 use Rattle.field_mod.proofs.Modular.{same_by, same_refl, same_sym, same_trans, same-add, same-scale, same-mul, neg_cancel}
 use Rattle.chains.specs.Terms.{coefficient}
 use Rattle.chains.proofs.TermLists.{coefficient-append}
-use Rattle.algebraic_reduction.specs.Reduction.{boundary_by, single, Step, IsBoundary, IsUnpaired, IsOnLeft, AreSteps, left, left_all, project, project_all, include, include_all, homotopy, homotopy_all}
+use Rattle.algebraic_reduction.specs.Reduction.{boundary_by, single, Step, IsBoundary, IsUnpaired, IsOnLeft, AreSteps, left, left_all, project, project_all, include_all, homotopy, homotopy_all}
 use Rattle.algebraic_reduction.specs.Laws.{AreApart}
-use Rattle.algebraic_reduction.specs.Kept.{KeptStep, steps_of, no_step, nth, a_at, b_at, inverse_at}
+use Rattle.algebraic_reduction.specs.Kept.{KeptStep, steps_of, no_step, a_at, b_at, inverse_at}
 use Rattle.algebraic_reduction.specs.Maps.{weight_at}
 use Rattle.algebraic_reduction.proofs.OneStep.{eqb_sym, include-same, include-combination}
 use Rattle.algebraic_reduction.proofs.Steps.{step_one, project_all-same, include_all-same, homotopy_all-same, log_identity, log_project-boundary}

@@ -1,5 +1,5 @@
 -- Generators as chains, and chains on the generators that the steps leave.
-use Rattle.std.proofs.Common.{◌≡◌, ◌≢◌, ℕ, ◌+◌, ◌*◌, ◌<◌, ◌≤◌, refl, sym, ap, arith, ⊎_elim, List, [], ◌∷◌, length, get_or}
+use Rattle.std.proofs.Common.{◌≡◌, ◌≢◌, ℕ, ◌<◌, ◌≤◌, refl, sym, ap, arith, ⊎_elim, List, [], ◌∷◌, length, get_or}
 use Rattle.std.proofs.lemmas.Bool.{cases_eq, ltb-false}
 use Rattle.field_mod.specs.Modular.{Same}
 use Rattle.chains.specs.Homology.{IsChain}

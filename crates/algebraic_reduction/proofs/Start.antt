@@ -1,5 +1,5 @@
 -- What the fields of a log hold at the start.
-use Rattle.std.proofs.Common.{◌≡◌, ℕ, ◌<◌, ◌∙◌, ap, arith, ⊎_elim, List, [], ◌∷◌, ◌++◌, length, get_or, Option, Some, None, length-append}
+use Rattle.std.proofs.Common.{◌≡◌, ℕ, ◌∙◌, ap, arith, ⊎_elim, List, [], ◌∷◌, ◌++◌, length, get_or, Option, Some, None, length-append}
 use Rattle.std.proofs.lemmas.Bool.{cases_lt, cases_eq}
 use Rattle.std.proofs.lemmas.List.{get_or_past, get_or_append_left}
 use Rattle.std.proofs.Math.Seq.{get_or-append_seam}

@@ -1,8 +1,8 @@
 -- Numbers of steps that become pending, the last step first.
-use Rattle.std.proofs.Common.{◌≡◌, ◌≢◌, ℕ, zero, suc, ◌+◌, ◌-◌, ◌*◌, ◌/◌, ◌%◌, ◌<◌, ◌≤◌, ◌⊎◌, inl, inr, refl, sym, ap, ◌∙◌, arith, ⊎_elim, List, [], ◌∷◌, length, get_or, take, cond, eqb, eq-eqb, ne_eqb, subst}
-use Rattle.std.proofs.lemmas.Bool.{cases_eq, cases_lt}
+use Rattle.std.proofs.Common.{◌≡◌, ◌≢◌, ℕ, zero, suc, ◌+◌, ◌-◌, ◌*◌, ◌%◌, ◌<◌, ◌⊎◌, inl, inr, refl, sym, ap, ◌∙◌, arith, ⊎_elim, List, [], ◌∷◌, length, get_or, take, cond, eqb, eq-eqb, ne_eqb, subst}
+use Rattle.std.proofs.lemmas.Bool.{cases_eq}
 use Rattle.field_mod.specs.Modular.{Same}
-use Rattle.field_mod.proofs.Modular.{same_by, same_refl, same_trans, same-add, same-scale}
+use Rattle.field_mod.proofs.Modular.{same_by, same_trans, same-add, same-scale}
 use Rattle.chains.specs.Terms.{coefficient}
 use Rattle.algebraic_reduction.proofs.NamedRows.{coefficient_more}
 use Rattle.algebraic_reduction.proofs.Residues.{reduced}

@@ -1,4 +1,4 @@
-use Rattle.std.proofs.Common.{ap, ℕ, List, length, subst}
+use Rattle.std.proofs.Common.{ℕ, List, length, subst}
 use Rattle.field_mod.specs.Modular.{Same}
 use Rattle.field_mod.proofs.Modular.{same_trans}
 use Rattle.field_mod.proofs.Table.{two_le}

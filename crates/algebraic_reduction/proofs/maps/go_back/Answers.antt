@@ -3,7 +3,7 @@ use Rattle.std.proofs.lemmas.List.{get_or_default}
 use Rattle.field_mod.proofs.Table.{two_le}
 use Rattle.chains.specs.Terms.{coefficient}
 use Rattle.chains.specs.ChainComplex.{incidence}
-use Rattle.algebraic_reduction.specs.Kept.{KeptStep, no_step, nth, b_at, steps_of}
+use Rattle.algebraic_reduction.specs.Kept.{KeptStep, no_step, nth, b_at}
 use Rattle.algebraic_reduction.specs.Maps.{HasDescended}
 use Rattle.algebraic_reduction.proofs.Bridge.{grade}
 use Rattle.algebraic_reduction.proofs.KeptSteps.{step_at}

@@ -1,10 +1,10 @@
-use Rattle.std.proofs.Common.{arith, ap, sym, ◌∙◌, ◌≡◌, ◌≢◌, ◌+◌, ◌-◌, ◌*◌, ◌%◌, ◌<◌, ◌≤◌, ◌⊎◌, take, ℕ, List, [], length, subst}
+use Rattle.std.proofs.Common.{arith, ap, sym, ◌∙◌, ◌≡◌, ◌≢◌, ◌+◌, ◌-◌, ◌*◌, ◌%◌, ◌<◌, ◌≤◌, ◌⊎◌, take, ℕ, List, length, subst}
 use Rattle.std.proofs.lemmas.List.{get_or_default}
 use Rattle.field_mod.specs.Modular.{Same, minus}
 use Rattle.field_mod.proofs.Table.{two_le}
 use Rattle.chains.specs.Terms.{coefficient}
 use Rattle.chains.specs.ChainComplex.{incidence}
-use Rattle.algebraic_reduction.specs.Kept.{KeptStep, no_step, nth, b_at, steps_of}
+use Rattle.algebraic_reduction.specs.Kept.{KeptStep, no_step, nth, b_at}
 use Rattle.algebraic_reduction.specs.Maps.{HasDescended, weight_at}
 use Rattle.algebraic_reduction.proofs.Bridge.{grade, is_boundary}
 use Rattle.algebraic_reduction.proofs.OneMore.{state_short}

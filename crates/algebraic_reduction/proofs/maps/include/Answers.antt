@@ -1,7 +1,4 @@
-use Rattle.std.proofs.Common.{arith, ap, ◌∙◌, ◌+◌, ◌*◌, ◌%◌, ◌-◌, ℕ, List, length}
-use Rattle.field_mod.specs.Modular.{Same}
 use Rattle.field_mod.proofs.Table.{two_le}
-use Rattle.chains.specs.Terms.{coefficient}
 use Rattle.algebraic_reduction.proofs.Including.{included_result}
 use Rattle.algebraic_reduction.proofs.maps.include.Goals as goal
 

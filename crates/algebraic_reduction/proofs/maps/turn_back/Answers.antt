@@ -1,4 +1,4 @@
-use Rattle.std.proofs.Common.{arith, ap, ◌∙◌, refl, ◌<◌, length, get_or}
+use Rattle.std.proofs.Common.{arith, refl, get_or}
 use Rattle.algebraic_reduction.proofs.Turning.{turning_add, turning_skip}
 use Rattle.algebraic_reduction.proofs.maps.turn_back.Goals as goal
 use Rattle.algebraic_reduction.proofs.maps.turn_back.Goals.{then-place-count+then-number-ne0+in_ok-add, else-place-count, else-place-count-via-then-place-count+else-number-ne0, else-place-count-via-else-place-count}

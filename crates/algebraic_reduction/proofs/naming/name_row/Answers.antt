@@ -1,4 +1,4 @@
-use Rattle.std.proofs.Common.{arith, ap, ◌∙◌, sym, refl, List, ℕ, [], ◌∷◌, ◌++◌}
+use Rattle.std.proofs.Common.{arith, ap, ◌∙◌, refl, List, ℕ, [], ◌∷◌, ◌++◌}
 use Rattle.std.proofs.lemmas.List.{get_or_default}
 use Rattle.algebraic_reduction.proofs.NamedRows.{naming_push, naming_skip}
 use Rattle.algebraic_reduction.proofs.naming.name_row.Goals as goal

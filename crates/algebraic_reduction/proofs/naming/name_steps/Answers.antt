@@ -1,7 +1,7 @@
-use Rattle.std.proofs.Common.{arith, ap, sym, ◌∙◌, ℕ, List, ◌<◌, ◌≡◌, length, subst}
+use Rattle.std.proofs.Common.{arith, ap, sym, ◌∙◌, ℕ, List, ◌<◌, length, subst}
 use Rattle.std.proofs.lemmas.List.{get_or_default}
 use Rattle.chains.specs.Terms.{coefficient}
-use Rattle.algebraic_reduction.specs.Kept.{KeptStep, no_step, nth}
+use Rattle.algebraic_reduction.specs.Kept.{no_step}
 use Rattle.algebraic_reduction.specs.State.{Names}
 use Rattle.algebraic_reduction.proofs.NamedRows.{named_more}
 use Rattle.algebraic_reduction.proofs.naming.name_steps.Goals as goal

@@ -1,10 +1,7 @@
-use Rattle.std.proofs.Common.{arith, ap, ◌∙◌, ◌+◌, ◌*◌, sym, ℕ, List, subst}
-use Rattle.field_mod.specs.Modular.{Same}
+use Rattle.std.proofs.Common.{arith, ap, ◌∙◌, ◌+◌, ◌*◌}
 use Rattle.field_mod.proofs.Table.{two_le}
 use Rattle.field_mod.proofs.Modular.{same_by, same_trans}
-use Rattle.chains.specs.Terms.{coefficient}
-use Rattle.algebraic_reduction.specs.Kept.{KeptStep, steps_of}
-use Rattle.algebraic_reduction.specs.Laws.{left_of}
+use Rattle.algebraic_reduction.specs.Kept.{KeptStep}
 use Rattle.algebraic_reduction.proofs.Residues.{number_below}
 use Rattle.algebraic_reduction.proofs.OneMore.{pos_by, inverse_same, state_short, state_after, one_more}
 use Rattle.algebraic_reduction.proofs.Going.{goes_after, taken_after}

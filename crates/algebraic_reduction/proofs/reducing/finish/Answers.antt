@@ -1,12 +1,10 @@
-use Rattle.std.proofs.Common.{arith, ap, sym, ◌∙◌, ◌<◌, ◌*◌, ◌+◌, ◌≡◌, ℕ, List, [], length, true, false}
+use Rattle.std.proofs.Common.{arith, ap, sym, ◌∙◌, ◌*◌, ◌+◌, ◌≡◌, true, false}
 use Rattle.std.specs.Prelude.{is_some}
-use Rattle.field_mod.specs.Modular.{Same, NonZero}
+use Rattle.field_mod.specs.Modular.{NonZero}
 use Rattle.field_mod.proofs.Table.{two_le}
-use Rattle.field_mod.proofs.Modular.{same_by, same_sym, same_trans}
-use Rattle.chains.specs.Terms.{coefficient}
+use Rattle.field_mod.proofs.Modular.{same_by, same_trans}
 use Rattle.algebraic_reduction.specs.Kept.{steps_of}
 use Rattle.algebraic_reduction.specs.Laws.{left_of}
-use Rattle.algebraic_reduction.specs.Reduction.{IsUnpaired}
 use Rattle.algebraic_reduction.specs.State.{place_at}
 use Rattle.algebraic_reduction.proofs.Going.{is_placed, is_free, paired_empty, empty_row, nonzero_by, nonzero_alive}
 use Rattle.algebraic_reduction.proofs.reducing.finish.Goals as goal

@@ -1,4 +1,4 @@
-use Rattle.std.proofs.Common.{arith, ap, ◌∙◌, ℕ, List, ◌≡◌, ◌+◌, ◌*◌, cond, eqb, subst}
+use Rattle.std.proofs.Common.{arith, ◌∙◌, ℕ, List, ◌≡◌, ◌+◌, ◌*◌, cond, eqb, subst}
 use Rattle.std.proofs.lemmas.List.{get_or_default}
 use Rattle.field_mod.specs.Modular.{Same, minus}
 use Rattle.field_mod.proofs.Table.{two_le}
