@@ -38,7 +38,9 @@ fn words_of(rt: &HostRuntime) -> Result<Vec<String>, Fault> {
     match env::args(rt) {
         Ok(args) => {
             for word in args.skip(1) {
-                words.push(word)?;
+                if words.push(word).is_err() {
+                    return Err(Fault::OutOfMemory);
+                }
             }
         }
         Err(e) if e.kind() == ErrorKind::OutOfMemory => return Err(Fault::OutOfMemory),
