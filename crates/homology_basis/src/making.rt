@@ -21,6 +21,8 @@ pub fn basis<const P: u16>(
     ensures log { IfOk result (λ b. b.log ≡ log.entry) }
     ensures basis { IfOk result (IsBasisWithContraction P) }
 {
+    // The cocycles are found by the rows in which their generators stand.
+    let log = log.index_rows()?;
     let classes = Classes::of(alloc, field, &log, true)?;
     Ok(Basis { log, classes })
 }
