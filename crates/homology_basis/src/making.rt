@@ -22,7 +22,21 @@ pub fn basis<const P: u16>(
     ensures basis { IfOk result (IsBasisWithContraction P) }
 {
     // The cocycles are found by the rows in which their generators stand.
-    let log = log.index_rows()?;
+    let indexed = log.index_rows()?;
+    let basis = basis_by_rows(alloc, field, indexed)?;
+    Ok(basis)
+}
+
+// The basis of a log whose rows have an index, where it is to be quick.
+fn basis_by_rows<const P: u16>(
+    alloc: Global,
+    field: Field<P>,
+    log: Log<P>,
+) -> Result<Basis<P>, NoMemory>
+    requires { NothingLeft P log.complex log.steps }
+    ensures log { IfOk result (λ b. b.log ≡ log.entry) }
+    ensures basis { IfOk result (IsBasisWithContraction P) }
+{
     let classes = Classes::of(alloc, field, &log, true)?;
     Ok(Basis { log, classes })
 }
