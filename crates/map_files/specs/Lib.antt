@@ -3,4 +3,8 @@ pub mod Items
 pub mod MapFile
 pub mod Laws
 pub mod Reading
+pub mod Openings
+pub mod Kept
+pub mod Readers
+pub mod Readings
 pub mod Faults
