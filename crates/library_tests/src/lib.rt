@@ -5,3 +5,7 @@
 mod basis_tests;
 #[cfg(test)]
 mod cell_complex_tests;
+#[cfg(test)]
+mod map_file_tests;
+#[cfg(test)]
+mod value_tests;

@@ -1,16 +1,16 @@
 -- What the relations say of a text is what the reading function answers: so a text has one value or one refusal.
-use Rattle.std.proofs.Common.{◌≡◌, ℕ, ℤ, List, [], ◌∷◌, ◌++◌, map, Bool, true, ◌&&◌, not, if◌then◌else◌, Some, Ok, Err, refl, sym, ap, ◌∙◌, subst, append_assoc, ⊎_elim}
+use Rattle.std.proofs.Common.{◌≡◌, ℕ, ℤ, List, [], ◌∷◌, ◌++◌, map, true, ◌&&◌, not, if◌then◌else◌, Some, Ok, Err, refl, sym, ap, ◌∙◌, subst, append_assoc, ⊎_elim}
 use Rattle.std.specs.List.{list_all, flat_map}
 use Rattle.std.proofs.lemmas.List.{append-nil}
 use Rattle.cube_maps.specs.CubeMaps.{Mapping}
-use Rattle.grid_files.specs.Items.{opened, closed, fits_corner, is_empty, is_full_end}
+use Rattle.grid_files.specs.Items.{opened, closed, is_empty, is_full_end}
 use Rattle.grid_files.specs.SetFile.{said, first_place}
 use Rattle.grid_files.specs.declared.fault.TextCause.{TextCause}
 use Rattle.grid_files.specs.declared.fault.TextCause.TheVariants.{Unclosed}
 use Rattle.grid_files.specs.declared.piece.Piece.{Piece}
 use Rattle.grid_files.specs.declared.piece.Piece.TheVariants.{Number, Mark, Arrow, SkippedLine, DimensionWord, DimensionNumber}
 use Rattle.grid_files.proofs.Reading.{and_both}
-use Rattle.map_files.specs.Items.{Item, single, listed, dimension_line, skipped_line, Open, nothing, in_left, before_arrow, before_value, in_single, in_list, in_listed, behind_word, leading, listing, fits_cube, beginning, fits_open, cause_of, with_item}
+use Rattle.map_files.specs.Items.{Item, single, listed, dimension_line, skipped_line, Open, nothing, in_left, before_arrow, before_value, in_single, in_list, in_listed, behind_word, leading, fits_cube, beginning, fits_open, cause_of, with_item}
 use Rattle.map_files.specs.MapFile.{IsItem, Splits, Gathers, fault_place, StopsAt, Refuses}
 use Rattle.map_files.specs.Reading.{Step, goes, closes, stops, in_corner, step, next, judged, start_of, closing_place, read}
 use Rattle.map_files.proofs.Reading.{agrees, cause_in}

@@ -1,17 +1,15 @@
 -- What an element does to the named cubes: what is named, the values, how many there are.
-use Rattle.std.proofs.Common.{◌≡◌, ℕ, suc, ◌+◌, List, [], ◌∷◌, ◌++◌, length, map, Bool, true, false, ◌||◌, ◌&&◌, if◌then◌else◌, refl, sym, ap, ◌∙◌, subst, arith, length-append}
-use Rattle.std.specs.List.{list_all, list_any, AllByRecursion}
+use Rattle.std.proofs.Common.{◌≡◌, ◌+◌, List, [], ◌∷◌, ◌++◌, length, Bool, true, false, ◌&&◌, if◌then◌else◌, refl, sym, ap, ◌∙◌, subst, arith, length-append}
+use Rattle.std.specs.List.{list_all, AllByRecursion}
 use Rattle.std.specs.List.Sorted.{IsStrictlySortedBy}
 use Rattle.std.specs.Ordering.{is_eq}
 use Rattle.std.specs.declared.cmp.Ordering.{Ordering}
 use Rattle.std.specs.declared.cmp.Ordering.TheVariants.{Less, Equal, Greater}
-use Rattle.std.proofs.lemmas.Bool.{true≢false}
 use Rattle.elem_cubes.specs.Cells.{Factor, same_cell}
 use Rattle.elem_cubes.specs.Order.{cell_cmp}
 use Rattle.elem_cubes.specs.OrderLemmas.{cell_cmp_total, cell_cmp_ties, cell_cmp_itself, same_cell-Decides, tied_cells, cell_refl}
-use Rattle.cube_sets.specs.Sorted.{has, by_order, inserted}
-use Rattle.cube_sets.proofs.Merging.{IsBelow, by_cases, above, above', below_further, sorted-inserted, has-inserted}
-use Rattle.cube_sets.proofs.Sorting.{equal_from}
+use Rattle.cube_sets.specs.Sorted.{by_order, inserted}
+use Rattle.cube_sets.proofs.Merging.{by_cases, above, below_further, sorted-inserted}
 use Rattle.cube_sets.proofs.Steps.{absent}
 use Rattle.cube_maps.specs.CubeMaps.{Naming, names, value_of, cubes_of, pairs_of}
 use Rattle.cube_maps.proofs.Naming.{names_has}

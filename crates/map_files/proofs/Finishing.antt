@@ -1,6 +1,6 @@
 -- The end of the reading: two maps that name the same cubes, with the same values, are one map.
-use Rattle.std.proofs.Common.{◌≡◌, ℕ, List, [], ◌∷◌, length, Bool, true, false, ◌||◌, ◌&&◌, if◌then◌else◌, IsTrue, refl, sym, ap, ◌∙◌, subst, arith}
-use Rattle.std.specs.List.{list_all, list_any, AllByRecursion}
+use Rattle.std.proofs.Common.{◌≡◌, ℕ, List, [], ◌∷◌, length, Bool, true, false, ◌||◌, ◌&&◌, if◌then◌else◌, IsTrue, refl, sym, ap, ◌∙◌, arith}
+use Rattle.std.specs.List.{list_all, AllByRecursion}
 use Rattle.std.specs.List.Sorted.{IsStrictlySortedBy}
 use Rattle.std.proofs.lemmas.Bool.{true≢false}
 use Rattle.elem_cubes.specs.Cells.{Factor, same_cell}
@@ -15,7 +15,6 @@ use Rattle.cube_maps.specs.declared.pair.Pair.{Pair}
 use Rattle.cube_maps.proofs.Naming.{names_has}
 use Rattle.cube_maps.proofs.Made.{no_value}
 use Rattle.grid_files.proofs.Finishing.{all_pass, member_passes}
-use Rattle.map_files.specs.Kept.{MapParts, IsKept}
 use Rattle.map_files.specs.MapFile.{no_namings}
 use Rattle.map_files.specs.Readers.{IsGathered}
 use Rattle.map_files.specs.declared.gathered.Gathered.{Gathered}
@@ -46,7 +45,7 @@ same_namings (e ∷ es) (f ∷ fs) same s t vs vt h =
     let head : e.cube ≡ f.cube = cc in
     let tail : cubes_of es ≡ cubes_of fs = cc in
     let value : e.value ≡ f.value = same_sets e.value f.value vs.0 vt.0 (λ v. ap (λ l. has cell_cmp l v) (sym (own_value e es)) ∙ h e.cube v
-        ∙ ap (λ l. has cell_cmp l v) (ap (value_of (f ∷ fs)) head ∙ own_value f fs)) in
+    ∙ ap (λ l. has cell_cmp l v) (ap (value_of (f ∷ fs)) head ∙ own_value f fs)) in
     let one : e ≡ f = λ i. record { cube = head i; value = value i } in
     ap (λ l. e ∷ l) (same_namings es fs tail (rest_sorted e es s) (rest_sorted f fs t) vs.1 vt.1 (λ c v. rest_values e f es fs head s t c v (same_cell e.cube c) refl (h c v)))
     ∙ ap (λ x. x ∷ fs) one

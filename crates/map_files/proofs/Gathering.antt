@@ -1,7 +1,6 @@
 -- What one more element makes of the map that is read.
-use Rattle.std.proofs.Common.{◌≡◌, ◌⊎◌, inl, inr, ⊎_elim, ℕ, ◌<◌, ◌≤◌, ℤ, List, [], ◌∷◌, ◌++◌, length, map, Bool, true, false, ◌&&◌, ◌||◌, ◌==◌, nat_lt, if◌then◌else◌, Option, None, Some, Result, Ok, Err, refl, sym, ap, ◌∙◌, subst, arith}
+use Rattle.std.proofs.Common.{◌≡◌, ◌⊎◌, inl, inr, ⊎_elim, ℕ, ◌<◌, ◌≤◌, ℤ, List, [], ◌∷◌, length, map, Bool, true, false, ◌&&◌, ◌||◌, ◌==◌, nat_lt, if◌then◌else◌, None, Some, Ok, Err, refl, sym, ap, ◌∙◌, subst, arith}
 use Rattle.std.specs.List.{list_any, list_all}
-use Rattle.std.specs.List.Sorted.{IsStrictlySortedBy}
 use Rattle.std.proofs.lemmas.List.{length-map}
 use Rattle.std.proofs.lemmas.Bool.Decides.{nat_tests}
 use Rattle.elem_cubes.specs.declared.range.TheConstants.{MAX_EMBEDDING}
@@ -11,20 +10,18 @@ use Rattle.cube_sets.specs.Sorted.{inserted}
 use Rattle.cube_sets.specs.Sets.{is_member, dimensions_agree}
 use Rattle.cube_sets.proofs.SetLemmas.{all-inserted}
 use Rattle.cube_sets.proofs.Sorting.{and_true}
-use Rattle.cube_maps.specs.CubeMaps.{Naming, Mapping, pairs_of, is_full_member, is_naming, IsCubeMap}
+use Rattle.cube_maps.specs.CubeMaps.{Mapping, pairs_of, is_full_member, is_naming, IsCubeMap}
 use Rattle.cube_maps.specs.declared.parts.TheConstants.{MAP_PAIRS}
 use Rattle.grid_files.specs.Items.{cube_cause}
 use Rattle.grid_files.specs.SetFile.{no_members}
 use Rattle.grid_files.specs.Corners.{IsCorner, IsCellOf}
 use Rattle.grid_files.specs.declared.corner.OpenCorner.{OpenCorner}
-use Rattle.grid_files.specs.declared.fault.Kind.{Kind}
 use Rattle.grid_files.specs.declared.fault.Kind.TheVariants.{Any}
 use Rattle.grid_files.specs.declared.fault.TextCause.{TextCause}
 use Rattle.grid_files.specs.declared.fault.TextCause.TheVariants.{DimensionTooLarge, MixedDimension, TooMany}
 use Rattle.grid_files.proofs.WholeCubes.{full_in_range}
-use Rattle.cube_sets.specs.Sets.{Members}
 use Rattle.map_files.specs.Elements.{joined, changed, with_element}
-use Rattle.map_files.specs.Items.{Item, single, listed, dimension_line, skipped_line, fits, fits_cube, is_long, are_alike, count_cause, has_too_many, element_cause, with_item}
+use Rattle.map_files.specs.Items.{Item, single, listed, dimension_line, skipped_line, fits, fits_cube, is_long, are_alike, count_cause, element_cause, with_item}
 use Rattle.map_files.specs.Openings.{IsClosing, AreCubes}
 use Rattle.map_files.specs.Kept.{IsKept}
 use Rattle.map_files.specs.Readers.{IsGathered}
@@ -70,6 +67,7 @@ mixed_known m g q vs cube values is a some other =
   where
     apart : (d n : ℕ) → (d ≡ n → ⊥) → (d ≡ 0 → ⊥) → (n ≡ 0 → ⊥) → dimensions_agree d n ≡ false
     apart d n f g h = grind (arith, nat_tests)
+
     some_numbers : (xs : List ℤ) → fits_cube xs ≡ true → length xs ≡ 0 → ⊥
     some_numbers [] h e = cc
     some_numbers (x ∷ xs) h e = absurd (omega arith)
@@ -180,9 +178,9 @@ element_joins m old now q vs cube values is a agree alike k dimension some axes 
     let size : length cube ≡ length (full_cell q) = ap length a.left in
     let fit = and_true (fits_cube q) (list_all fits_cube vs) a.fitting in
     let lens : list_all (λ c. length c == length (full_cell q)) (map full_cell vs) ≡ true =
-        ap (λ n. list_all (λ c. length c == n) (map full_cell vs)) (sym size) ∙ ap (list_all (λ c. length c == length cube)) (sym a.listed) ∙ alike in (
+    ap (λ n. list_all (λ c. length c == n) (map full_cell vs)) (sym size) ∙ ap (list_all (λ c. length c == length cube)) (sym a.listed) ∙ alike in (
       cause_by m q vs true a.short (alike_by m old q vs cube values is a agree alike)
-      ∙ not_too_many (with_element m (full_cell q) (map full_cell vs)) (subst (λ (n : ℕ). n ≤ MAP_PAIRS) kept.count few) (subst (λ (n : ℕ). n ≤ MAP_PAIRS) kept.pair_count few_pairs),
+          ∙ not_too_many (with_element m (full_cell q) (map full_cell vs)) (subst (λ (n : ℕ). n ≤ MAP_PAIRS) kept.count few) (subst (λ (n : ℕ). n ≤ MAP_PAIRS) kept.pair_count few_pairs),
       record {
         dimension = dimension ∙ size;
         kept = kept;
@@ -222,6 +220,7 @@ short_from q cell h = let t : is_long q ≡ false = not_long (length q) h.1 in (
   where
     not_long : (n : ℕ) → n ≤ MAX_EMBEDDING → nat_lt MAX_EMBEDDING n ≡ false
     not_long n h = grind (arith, nat_tests)
+
     some_same : (a b : List Factor) → Some a ≡ Some b → b ≡ a
     some_same a b e = cc
 

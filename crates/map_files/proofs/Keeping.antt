@@ -1,5 +1,5 @@
 -- The cubes and pairs that are kept of a map, as one more comes.
-use Rattle.std.proofs.Common.{◌≡◌, ℕ, suc, ◌+◌, List, [], ◌∷◌, ◌++◌, length, take, get_or, Bool, true, false, ◌||◌, ◌&&◌, if◌then◌else◌, refl, sym, ap, ◌∙◌, subst, arith, length-append}
+use Rattle.std.proofs.Common.{◌≡◌, ℕ, ◌+◌, List, [], ◌∷◌, ◌++◌, length, take, Bool, true, false, ◌||◌, ◌&&◌, if◌then◌else◌, refl, sym, ap, ◌∙◌, subst, arith, length-append}
 use Rattle.std.specs.List.{list_any, AllByRecursion}
 use Rattle.std.specs.List.Sorted.{IsStrictlySortedBy}
 use Rattle.std.specs.Ordering.{is_eq}
@@ -137,5 +137,5 @@ pub step_kept : (q : List Factor) (values : List (List Factor)) (i : ℕ) (v : L
     → IsKept old (changed q (joined (take i values)) es) → IsKept now (changed q (joined (take (i + 1) values)) es)
 step_kept q values i v old now es e c p k =
     let more = pair_kept q v old now (changed q (joined (take i values)) es) c p (value_sorted (changed q (joined (take i values)) es) q k.sorted_values)
-        (changed_named q (joined (take i values)) es) k in
+    (changed_named q (joined (take i values)) es) k in
     subst (IsKept now) (sym (ap (λ l. changed q (joined l) es) e ∙ one_more q (take i values) v es)) more

@@ -19,13 +19,11 @@ use Rattle.map_files.specs.declared.opening.Closing.{Closing}
 use Rattle.map_files.specs.declared.opening.Turn.TheVariants.{Goes, Adds, Closes, Stops}
 use Rattle.map_files.proofs.Reading.{Says, says}
 use Rattle.map_files.proofs.Deciding.{read_goes, read_closes, read_stops}
-
 use Rattle.std.specs.List.{list_all}
 use Rattle.std.proofs.lemmas.List.Folds.{list_all-append}
 use Rattle.grid_files.specs.Corners.{IsCorner}
 use Rattle.grid_files.specs.declared.corner.OpenCorner.{OpenCorner}
 use Rattle.grid_files.proofs.Reading.{and_both}
-use Rattle.map_files.specs.declared.values.Values.{Values}
 
 goes_from : (vs : List (List ℤ)) (opening : Opening) (s : Step) → StepsAs vs (Goes opening) s → (o : Open) × (s ≡ goes o) × IsOpening opening o × (listed_in o ≡ vs)
 goes_from vs opening (goes o) h = (o, refl, h.0, h.1)
@@ -74,6 +72,7 @@ last_fits vs v h = first_true (fits_cube v) (second_true (list_all fits_cube vs)
     second_true : (a b : Bool) → (a && b) ≡ true → b ≡ true
     second_true true b h = h
     second_true false b h = cc
+
     first_true : (a : Bool) → (a && true) ≡ true → a ≡ true
     first_true true h = refl
     first_true false h = cc

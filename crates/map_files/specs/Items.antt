@@ -1,8 +1,8 @@
 -- The items of a map file: their texts, their beginnings, and what a map becomes by them.
-use Rattle.std.specs.Prelude.{ℕ, ℤ, List, [], ◌∷◌, ◌++◌, length, map, Bool, true, false, ◌==◌, ◌&&◌, ◌||◌, not, nat_lt, if◌then◌else◌, Option, None, Some}
+use Rattle.std.specs.Prelude.{ℕ, ℤ, List, [], ◌∷◌, ◌++◌, length, map, Bool, true, ◌==◌, ◌&&◌, ◌||◌, nat_lt, if◌then◌else◌, Option, None, Some}
 use Rattle.std.specs.List.{list_all, list_any, flat_map}
 use Rattle.elem_cubes.specs.declared.range.TheConstants.{MAX_EMBEDDING}
-use Rattle.elem_cubes.specs.Cells.{Factor, full_cell}
+use Rattle.elem_cubes.specs.Cells.{full_cell}
 use Rattle.cube_sets.specs.Sets.{Members, dimensions_agree}
 use Rattle.cube_maps.specs.CubeMaps.{Mapping, pairs_of}
 use Rattle.cube_maps.specs.declared.parts.TheConstants.{MAP_PAIRS}

@@ -1,5 +1,5 @@
 -- What is kept of the beginning of an item, and what a piece does there.
-use Rattle.std.specs.Prelude.{◌≡◌, ℤ, List, [], ◌∷◌, ◌++◌, map, Bool, true, false, ◌&&◌}
+use Rattle.std.specs.Prelude.{◌≡◌, ℤ, List, [], ◌∷◌, ◌++◌, map, true, false, ◌&&◌}
 use Rattle.std.specs.List.{list_any, list_all}
 use Rattle.elem_cubes.specs.Cells.{Factor, full_cell, is_file_factor}
 use Rattle.grid_files.specs.Corners.{IsCorner}

@@ -1,5 +1,5 @@
 -- The reading of a map file as a function of its pieces, by which the parts of the reader are told.
-use Rattle.std.specs.Prelude.{ℕ, ℤ, List, [], ◌∷◌, ◌++◌, Bool, ◌==◌, ◌&&◌, not, if◌then◌else◌, Option, None, Some, Result, Ok, Err}
+use Rattle.std.specs.Prelude.{ℕ, ℤ, List, [], ◌∷◌, ◌++◌, ◌==◌, ◌&&◌, not, if◌then◌else◌, Option, None, Some, Result, Ok, Err}
 use Rattle.cube_maps.specs.CubeMaps.{Mapping}
 use Rattle.grid_files.specs.Items.{is_empty, is_full_end}
 use Rattle.grid_files.specs.declared.fault.TextCause.{TextCause}

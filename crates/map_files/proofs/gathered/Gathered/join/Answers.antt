@@ -1,6 +1,5 @@
-use Rattle.std.proofs.Common.{[], ◌∷◌, ◌++◌, refl, ap, subst, sym, ◌∙◌, ◌&&◌, true}
-use Rattle.std.specs.List.{list_all}
-use Rattle.map_files.specs.Items.{listed, single, cause_of, with_item, fits_cube}
+use Rattle.std.proofs.Common.{[], ◌∷◌, ◌++◌, subst}
+use Rattle.map_files.specs.Items.{cause_of, with_item}
 use Rattle.map_files.specs.Openings.{IsValues}
 use Rattle.map_files.specs.Readers.{Joins}
 use Rattle.map_files.proofs.Gathering.{single_item, listed_item, fits_one}

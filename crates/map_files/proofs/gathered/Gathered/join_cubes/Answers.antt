@@ -12,7 +12,7 @@ use Rattle.map_files.proofs.gathered.Gathered.join_cubes.Goals.{else-self-ne0-vi
 pub returns-then-not-are_of : goal.returns-then-not-are_of
 returns-then-not-are_of c = λ m q vs g a.
     let test : list_all (λ x. length x == length c.args.cube) c.args.values.now ≡ false =
-        ap (λ n. list_all (λ x. length x == n) c.args.values.now) (sym c.embedding-dimension.ensures.embedding) ∙ sym c.are_of.ensures ∙ c.if-not-are_of.true in
+    ap (λ n. list_all (λ x. length x == n) c.args.values.now) (sym c.embedding-dimension.ensures.embedding) ∙ sym c.are_of.ensures ∙ c.if-not-are_of.true in
     mixed_values m q vs c.args.cube c.args.values.now a test
 
 pub returns-then-cube_count : goal.returns-then-cube_count
@@ -22,7 +22,7 @@ returns-then-cube_count c = λ m q vs g a.
       | else-self-ne0-via-else-self-ne0 w ↦ inl w.if-self-ne0.false
     ] in
     let alike : list_all (λ x. length x == length c.args.cube) c.args.values.now ≡ true =
-        ap (λ n. list_all (λ x. length x == n) c.args.values.now) (sym c.embedding-dimension.ensures.embedding) ∙ sym c.are_of.ensures ∙ c.if-not-are_of.false in
+    ap (λ n. list_all (λ x. length x == n) c.args.values.now) (sym c.embedding-dimension.ensures.embedding) ∙ sym c.are_of.ensures ∙ c.if-not-are_of.false in
     let kept : IsKept c.join.new.self (changed c.args.cube (joined c.args.values.now) m.named) = on_ok c.join.result _ c.join.ensures (sym c.if-is_err.ensures.value) m.named g.kept in
     let many : MAP_PAIRS < length c.join.new.self.cubes = omega arith in
     too_many m c.args.self.now (record { dimension = 0; parts = c.join.new.self }) q vs c.args.cube c.args.values.now g a agree alike kept (inl many)
@@ -34,7 +34,7 @@ returns-then-pair_count c = λ m q vs g a.
       | else-self-ne0-via-else-self-ne0 w ↦ inl w.if-self-ne0.false
     ] in
     let alike : list_all (λ x. length x == length c.args.cube) c.args.values.now ≡ true =
-        ap (λ n. list_all (λ x. length x == n) c.args.values.now) (sym c.embedding-dimension.ensures.embedding) ∙ sym c.are_of.ensures ∙ c.if-not-are_of.false in
+    ap (λ n. list_all (λ x. length x == n) c.args.values.now) (sym c.embedding-dimension.ensures.embedding) ∙ sym c.are_of.ensures ∙ c.if-not-are_of.false in
     let kept : IsKept c.join.new.self (changed c.args.cube (joined c.args.values.now) m.named) = on_ok c.join.result _ c.join.ensures (sym c.if-is_err.ensures.value) m.named g.kept in
     let many : MAP_PAIRS < length c.join.new.self.pairs = omega arith in
     too_many m c.args.self.now (record { dimension = 0; parts = c.join.new.self }) q vs c.args.cube c.args.values.now g a agree alike kept (inr many)
@@ -46,7 +46,7 @@ returns c = λ m q vs g a.
       | else-self-ne0-via-else-self-ne0 w ↦ inl w.if-self-ne0.false
     ] in
     let alike : list_all (λ x. length x == length c.args.cube) c.args.values.now ≡ true =
-        ap (λ n. list_all (λ x. length x == n) c.args.values.now) (sym c.embedding-dimension.ensures.embedding) ∙ sym c.are_of.ensures ∙ c.if-not-are_of.false in
+    ap (λ n. list_all (λ x. length x == n) c.args.values.now) (sym c.embedding-dimension.ensures.embedding) ∙ sym c.are_of.ensures ∙ c.if-not-are_of.false in
     let kept : IsKept c.join.new.self (changed c.args.cube (joined c.args.values.now) m.named) = on_ok c.join.result _ c.join.ensures (sym c.if-is_err.ensures.value) m.named g.kept in
     let few : length c.join.new.self.cubes ≤ MAP_PAIRS = omega arith in
     let few_pairs : length c.join.new.self.pairs ≤ MAP_PAIRS = omega arith in

@@ -1,4 +1,4 @@
-use Rattle.std.proofs.Common.{sym, ap, ◌∙◌, refl}
+use Rattle.std.proofs.Common.{sym, ◌∙◌}
 use Rattle.map_files.proofs.Finishing.{parts_full, pairs_full, pairs_named, whole_map}
 use Rattle.map_files.proofs.reader.Reader.finish.Goals as goal
 

@@ -1,4 +1,4 @@
-use Rattle.std.proofs.Common.{refl, ap, ◌∙◌, []}
+use Rattle.std.proofs.Common.{refl, ap, ◌∙◌}
 use Rattle.map_files.specs.Reading.{closing_place}
 use Rattle.map_files.specs.Openings.{listed_in}
 use Rattle.map_files.specs.declared.opening.Opening.TheVariants.{Nothing, InList}
