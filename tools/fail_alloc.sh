@@ -3,7 +3,7 @@
 # The gate does not run this.
 #
 #     tools/fail_alloc.sh                 the proved program over the examples, as bin/chomp or `rt ci` left it
-#     tools/fail_alloc.sh --tests         the tests of chomp that are made for it, as `rt ci` or `rt test` left them
+#     tools/fail_alloc.sh --tests         the tests of run_tests that are made for it, as `rt ci` or `rt test` left them
 #     tools/fail_alloc.sh --try [N [M]]   the same tests by `rt try --test --fail-alloc`, for each number from N (1) to M (40): it
 #                                         needs no proof and looks for bad accesses too, but builds anew each time, for a minute
 #
@@ -12,7 +12,8 @@
 set -u
 
 here="$(cd "$(dirname "$(readlink -f "${BASH_SOURCE[0]}")")/.." && pwd)"
-built="$here/crates/chomp/out"
+program="$here/crates/chomp/out/chomp"
+test_program="$here/crates/run_tests/out/run_tests_tests"
 tests="memory_tests::"
 work="$(mktemp -d)"
 trap 'rm -rf "$work"' EXIT
@@ -91,13 +92,13 @@ wrong() {
 check_program() {
     local words="$1" list call calls wanted memory=0 unread=0 same=0
     read -ra list <<<"$words"
-    refusing 0 "$built/chomp" "${list[@]}"
+    refusing 0 "$program" "${list[@]}"
     wanted="$status"
     calls="$(cat "$work/calls")"
     cp "$work/out" "$work/out.wanted"
     cp "$work/err" "$work/err.wanted"
     for ((call = 1; call <= calls; call++)); do
-        refusing "$call" "$built/chomp" "${list[@]}"
+        refusing "$call" "$program" "${list[@]}"
         if [ "$status" = 6 ] && [ ! -s "$work/out" ] && [ "$(cat "$work/err")" = "error: out of memory" ]; then
             memory=$((memory + 1))
         elif [ "$status" = "$wanted" ] && cmp -s "$work/out" "$work/out.wanted" && cmp -s "$work/err" "$work/err.wanted"; then
@@ -114,11 +115,11 @@ check_program() {
 # A test passes, or ends with the error of its own want of memory.
 check_test() {
     local name="$1" call calls passed=0
-    refusing 0 "$built/chomp_tests" "$name"
+    refusing 0 "$test_program" "$name"
     [ "$status" = 0 ] || wrong "$name" 0
     calls="$(cat "$work/calls")"
     for ((call = 1; call <= calls; call++)); do
-        refusing "$call" "$built/chomp_tests" "$name"
+        refusing "$call" "$test_program" "$name"
         if [ "$status" = 0 ]; then
             passed=$((passed + 1))
         elif [ "$status" != 101 ] || ! grep -q '^error: Alloc' "$work/err"; then
@@ -131,7 +132,7 @@ check_test() {
 # A test that stops at an assertion, or a bad access, is wrong; one that ends with an error had no memory itself.
 try_tests() {
     local call="${1:-1}" last="${2:-40}"
-    cd "$here/crates/chomp" || exit 2
+    cd "$here/crates/run_tests" || exit 2
     for ((; call <= last; call++)); do
         rt try --test --fail-alloc "$call" -- "$tests" >"$work/out" 2>"$work/err"
         status=$?
@@ -144,8 +145,8 @@ try_tests() {
 }
 
 need() {
-    if [ ! -x "$built/$1" ]; then
-        echo "no $built/$1 yet: run rt ci, or bin/chomp homcubes examples/ring.txt and rt test" >&2
+    if [ ! -x "$1" ]; then
+        echo "no $1 yet: run rt ci, or bin/chomp homcubes examples/ring.txt and rt test" >&2
         exit 2
     fi
     make_refusing_library || exit 2
@@ -154,14 +155,14 @@ need() {
 cd "$here" || exit 2
 case "${1:-}" in
     "")
-        need chomp
+        need "$program"
         for words in "${runs[@]}"; do
             check_program "$words"
         done
         ;;
     --tests)
-        need chomp_tests
-        names="$("$built/chomp_tests" --list | sed -n "s/^\($tests.*\): test\$/\1/p")"
+        need "$test_program"
+        names="$("$test_program" --list | sed -n "s/^\($tests.*\): test\$/\1/p")"
         [ -n "$names" ] || { echo "no test $tests" >&2; exit 2; }
         for name in $names; do
             check_test "$name"

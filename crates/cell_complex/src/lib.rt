@@ -1,12 +1,14 @@
 //! The relative complex of a pair of cubical sets, over its cells and numbered.
 #![tactic(auto)]
 
+mod cell_list;
 mod complex;
 mod fault;
 mod laws;
 mod numbered;
 mod pairs;
 
+pub use cell_list::CellList;
 pub use complex::complex_of;
 pub use fault::CellsFault;
 pub use laws::{

@@ -7,8 +7,7 @@ use Rattle.chain_files.specs.Items.{Item, spelled, Gathers}
 use Rattle.chain_files.specs.declared.due.Due.{Due}
 use Rattle.chain_files.specs.declared.due.Due.TheVariants.{Chain, Complex, Max, Dimension, Top, Between, Degree, Colon, Count, Generator, Equals, First, Zero, Times, Target, Further, Coefficient}
 use Rattle.chain_files.specs.declared.fault.ChainCause.{ChainCause}
-use Rattle.chain_files.specs.declared.fault.TheConstants.{TERMS}
-use Rattle.chain_files.specs.declared.words.TheConstants.{CHAIN, COMPLEX, MAX, DIMENSION}
+use Rattle.chain_files.specs.Numbers.{most_terms, chain_word, complex_word, max_word, dimension_word}
 
 -- items, up to the greatest degree
 pub record Rest (p : ℕ) (s : Known) (behind_term : Bool) (content : Content) (ls : List Lexeme) : Type 0 where
@@ -51,7 +50,7 @@ abbrev pub AtTarget : ℕ → Known → ℕ → Content → List Lexeme → Type
 AtTarget p s c content ls = Made (with_term s c) (λ now. Rest p now true content) ls
 
 pub record AtTimes (p : ℕ) (s : Known) (c : ℕ) (content : Content) (ls : List Lexeme) : Type 0 where
-  pub few : s.terms < TERMS
+  pub few : s.terms < most_terms
   pub token : Token (mark 42) (AtTarget p (with_count s) c content) ls
 
 pub record AtCoefficient (p : ℕ) (s : Known) (content : Content) (ls : List Lexeme) : Type 0 where
@@ -69,10 +68,10 @@ abbrev pub AtGenerator : ℕ → Known → Content → List Lexeme → Type 0
 AtGenerator p s content ls = Made (with_boundary s) (λ now. AtEquals p now content) ls
 
 abbrev pub Follows : ℕ → Known → Due → Content → List Lexeme → Type 0
-Follows p s Chain content ls = Token (word CHAIN) (Token (word COMPLEX) (Token (word MAX) (Token (word DIMENSION) (AtTop p s content)))) ls
-Follows p s Complex content ls = Token (word COMPLEX) (Token (word MAX) (Token (word DIMENSION) (AtTop p s content))) ls
-Follows p s Max content ls = Token (word MAX) (Token (word DIMENSION) (AtTop p s content)) ls
-Follows p s Dimension content ls = Token (word DIMENSION) (AtTop p s content) ls
+Follows p s Chain content ls = Token (word chain_word) (Token (word complex_word) (Token (word max_word) (Token (word dimension_word) (AtTop p s content)))) ls
+Follows p s Complex content ls = Token (word complex_word) (Token (word max_word) (Token (word dimension_word) (AtTop p s content))) ls
+Follows p s Max content ls = Token (word max_word) (Token (word dimension_word) (AtTop p s content)) ls
+Follows p s Dimension content ls = Token (word dimension_word) (AtTop p s content) ls
 Follows p s Top content ls = AtTop p s content ls
 Follows p s Between content ls = Rest p s false content ls
 Follows p s (Degree k) content ls = AtDegree p s k content ls

@@ -14,7 +14,7 @@ use Rattle.chain_files.specs.Making.{IsGraded}
 use Rattle.chain_files.specs.declared.block.Block.{Block}
 use Rattle.chain_files.specs.declared.fault.ChainCause.{ChainCause}
 use Rattle.chain_files.specs.declared.fault.ChainCause.TheVariants.{BadNumber, UnknownGenerator, RepeatedGenerator, TooManyGenerators}
-use Rattle.chain_files.specs.declared.fault.TheConstants.{GENERATORS, MAX_DEGREE}
+use Rattle.chain_files.specs.Numbers.{most_generators, greatest_degree}
 use Rattle.chain_files.proofs.Deciding.{le_told, on_test, and_both}
 use Rattle.chain_files.proofs.Files.{terms_at}
 
@@ -41,17 +41,17 @@ record Graded (s : Known) (behind_term : Bool) : Type 0 where
 abbrev okay : Known → Result Known ChainCause
 okay x = Ok x
 
-accepted : (b : Bool) (x now : Known) (cause : ChainCause) → cond b (Ok x) (Err cause) ≡ Ok now → (b ≡ true) × (x ≡ now)
+pub accepted : (b : Bool) (x now : Known) (cause : ChainCause) → cond b (Ok x) (Err cause) ≡ Ok now → (b ≡ true) × (x ≡ now)
 accepted true x now cause e = (refl, cc)
 accepted false x now cause e = cc
 
-refused : (cause : ChainCause) (now : Known) → Err cause ≡ Ok now → ⊥
+pub refused : (cause : ChainCause) (now : Known) → Err cause ≡ Ok now → ⊥
 refused cause now e = cc
 
 ok_is : (x now : Known) → okay x ≡ okay now → x ≡ now
 ok_is x now e = cc
 
-some_is : (b : Bool) (n h : ℕ) → cond b (Some n) None ≡ Some h → (b ≡ true) × (n ≡ h)
+pub some_is : (b : Bool) (n h : ℕ) → cond b (Some n) None ≡ Some h → (b ≡ true) × (n ≡ h)
 some_is true n h e = (refl, cc)
 some_is false n h e = cc
 
@@ -64,13 +64,13 @@ number_within block (pos n) h e =
     (omega (arith, s.1, above), omega (arith, s.1, above, most))
 number_within block (negsuc n) h e = cc
 
-opened_as : (s now : Known) (o : Option ℕ) → opened s o ≡ Ok now → (h : ℕ) × (o ≡ Some h) × (with_boundary_at s h (record { given = true; terms = [] }) ≡ now)
+pub opened_as : (s now : Known) (o : Option ℕ) → opened s o ≡ Ok now → (h : ℕ) × (o ≡ Some h) × (with_boundary_at s h (record { given = true; terms = [] }) ≡ now)
 opened_as s now None e = absurd (refused UnknownGenerator now e)
 opened_as s now (Some h) e = on_test (boundary_at s h).given
     (λ g. absurd (refused RepeatedGenerator now (rw g at e)))
     (λ g. (h, refl, ok_is _ now (rw g at e)))
 
-joined_as : (s now : Known) (c : ℕ) (o : Option ℕ) → joined s c o ≡ Ok now
+pub joined_as : (s now : Known) (c : ℕ) (o : Option ℕ) → joined s c o ≡ Ok now
     → (g : ℕ) × (o ≡ Some g) × (with_boundary_at s s.last (record { given = (boundary_at s s.last).given; terms = (boundary_at s s.last).terms ++ (g, c) ∷ [] }) ≡ now)
 joined_as s now c None e = absurd (refused UnknownGenerator now e)
 joined_as s now c (Some g) e = (g, refl, ok_is _ now e)
@@ -90,7 +90,7 @@ graded_start s top e = rw e (record {
   last = λ f. cc;
 })
 
-absent_after : (bs : List Boundary) (n h : ℕ) → length bs ≤ h → get_or (bs ++ replicate n not_given) h not_given ≡ not_given
+pub absent_after : (bs : List Boundary) (n h : ℕ) → length bs ≤ h → get_or (bs ++ replicate n not_given) h not_given ≡ not_given
 absent_after bs n h le =
     get_or-append_right bs (replicate n not_given) (length bs) h not_given refl le
     ∙ ⊎_elim
@@ -208,11 +208,11 @@ graded_joined p s c t now h j = graded_term (with_count s) true (graded_counted 
 
 with_degree_as : (s now : Known) (k : ℕ) (z : ℤ) → with_degree s k z ≡ Ok now → (n : ℕ) × (with_generators s k n ≡ now)
 with_degree_as s now k (pos n) e =
-    (n, (accepted (nat_le (s.here.first + s.here.count + n) GENERATORS) (with_generators s k n) now TooManyGenerators e).1)
+    (n, (accepted (nat_le (s.here.first + s.here.count + n) most_generators) (with_generators s k n) now TooManyGenerators e).1)
 with_degree_as s now k (negsuc n) e = absurd (refused BadNumber now e)
 
 with_top_as : (s now : Known) (z : ℤ) → with_top s z ≡ Ok now → (n : ℕ) × (record s { content = record s.content { top = n } } ≡ now)
-with_top_as s now (pos n) e = (n, (accepted (nat_le n MAX_DEGREE) (record s { content = record s.content { top = n } }) now BadNumber e).1)
+with_top_as s now (pos n) e = (n, (accepted (nat_le n greatest_degree) (record s { content = record s.content { top = n } }) now BadNumber e).1)
 with_top_as s now (negsuc n) e = absurd (refused BadNumber now e)
 
 graded_items : (p : ℕ) (items : List Item) (s all : Known) (b : Bool) → Graded s b → Gathers p s b items all → (c : Bool) × Graded all c

@@ -4,9 +4,9 @@ use Rattle.std.proofs.lemmas.List.{length-replicate}
 use Rattle.chain_files.specs.Content.{not_given}
 use Rattle.chain_files.specs.Known.{Known, with_generators}
 use Rattle.chain_files.specs.Readers.{IsKnown}
-use Rattle.chain_files.specs.declared.fault.TheConstants.{GENERATORS}
+use Rattle.chain_files.specs.Numbers.{most_generators}
 
-pub known_degree : (s : Known) (k n : ℕ) → IsKnown s → s.here.first + s.here.count + n ≤ GENERATORS → IsKnown (with_generators s k n)
+pub known_degree : (s : Known) (k n : ℕ) → IsKnown s → s.here.first + s.here.count + n ≤ most_generators → IsKnown (with_generators s k n)
 known_degree s k n h few =
     let more = length-append s.content.degrees (replicate n k) in
     let more' = length-append s.content.boundaries (replicate n not_given) in

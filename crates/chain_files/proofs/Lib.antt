@@ -1,6 +1,7 @@
 pub mod Deciding
 pub mod Refusing
 pub mod Following
+pub mod Fronts
 pub mod Values
 pub mod Spelled
 pub mod Outcomes
@@ -12,3 +13,5 @@ pub mod Grading
 pub mod Alike
 pub mod Squares
 pub mod Numbering
+pub mod Pieces
+pub mod Parsing

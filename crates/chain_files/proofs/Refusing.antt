@@ -32,7 +32,7 @@ stopped : (p end : ℕ) (s : Known) (due : Due) (ts : List (ℕ × Lexeme)) (pla
 stopped p end s due [] place cause h = read_unclosed p end s due h.0 ∙ ap (λ n. Err (n, Unclosed)) (sym h.1) ∙ ap (λ w. Err (place, w)) (sym h.2)
 stopped p end s due (t ∷ ts) place cause h = read_stops p end s due t ts place cause h
 
-led : (p end : ℕ) (s s' : Known) (due due' : Due) (before rest : List (ℕ × Lexeme)) → Leads p s due before s' due'
+pub led : (p end : ℕ) (s s' : Known) (due due' : Due) (before rest : List (ℕ × Lexeme)) → Leads p s due before s' due'
     → read p s due end (before ++ rest) ≡ read p s' due' end rest
 led p end s s' due due' [] rest h = ap (λ x. read p x due end rest) (sym h.0) ∙ ap (λ d. read p s' d end rest) (sym h.1)
 led p end s s' due due' (t ∷ ts) rest h = read_goes p end s h.0 due h.1 t (ts ++ rest) h.2 ∙ led p end h.0 s' h.1 due' ts rest h.3

@@ -14,8 +14,7 @@ use Rattle.chain_files.specs.Reading.{read}
 use Rattle.chain_files.specs.declared.due.Due.{Due}
 use Rattle.chain_files.specs.declared.due.Due.TheVariants.{Chain, Complex, Max, Dimension, Top, Between, Degree, Colon, Count, Generator, Equals, First, Zero, Times, Target, Further, Coefficient}
 use Rattle.chain_files.specs.declared.fault.ChainCause.TheVariants.{BadByte, BadNumber, TooManyTerms}
-use Rattle.chain_files.specs.declared.fault.TheConstants.{TERMS}
-use Rattle.chain_files.specs.declared.words.TheConstants.{CHAIN, COMPLEX, MAX, DIMENSION}
+use Rattle.chain_files.specs.Numbers.{most_terms, chain_word, complex_word, max_word, dimension_word}
 use Rattle.chain_files.proofs.Deciding.{le_tested, zero_mod, on_test}
 use Rattle.chain_files.proofs.Refusing.{read_goes, read_end}
 
@@ -35,14 +34,14 @@ word_found w x at = ap (λ b. cond b x (stops at BadByte)) (same_word w)
 both_true : (a b : Bool) → a ≡ true → b ≡ true → (a && b) ≡ true
 both_true a b h k = rw (h, k) refl
 
-between_dimension : (s : Known) (at : ℕ) → s.next ≤ s.content.top → between s at (word DIMENSION) ≡ goes s (Degree s.next)
-between_dimension s at le = ap (λ b. cond b (goes s (Degree s.next)) (stops at BadByte)) (both_true (bytes_eq DIMENSION DIMENSION) (nat_le s.next s.content.top) (same_word DIMENSION) (le_tested s.next s.content.top le))
+between_dimension : (s : Known) (at : ℕ) → s.next ≤ s.content.top → between s at (word dimension_word) ≡ goes s (Degree s.next)
+between_dimension s at le = ap (λ b. cond b (goes s (Degree s.next)) (stops at BadByte)) (both_true (bytes_eq dimension_word dimension_word) (nat_le s.next s.content.top) (same_word dimension_word) (le_tested s.next s.content.top le))
 
 between_boundary : (s : Known) (at : ℕ) → 0 < s.next → between s at (mark 35) ≡ goes s Generator
 between_boundary s at lt = ap (λ b. cond b (goes s Generator) (stops at BadByte)) (both_true (35 == 35) (nat_lt 0 s.next) refl ((Decides-ltb 0 s.next).1 lt))
 
 module _ (p end : ℕ) (content : Content) where
-  dimension_step : (s : Known) (b : Bool) (due : Due) (at : ℕ) → Behind b due → s.next ≤ s.content.top → step p s due at (word DIMENSION) ≡ goes s (Degree s.next)
+  dimension_step : (s : Known) (b : Bool) (due : Due) (at : ℕ) → Behind b due → s.next ≤ s.content.top → step p s due at (word dimension_word) ≡ goes s (Degree s.next)
   dimension_step s b Between at st le = between_dimension s at le
   dimension_step s b (Zero place) at st le = between_dimension s at le
   dimension_step s b Further at st le = between_dimension s at le
@@ -86,7 +85,7 @@ module _ (p end : ℕ) (content : Content) where
       → Joins p s c t now → Reads now Further ls → Reads s due (mark 42 ∷ number t ∷ ls)
   product s now due c t ls e j h =
       one s (with_count s) due (λ _. Target (residue p c)) (mark 42) (number t ∷ ls)
-      (λ at. (e at).1 ∙ ap (λ b. cond b (goes (with_count s) (Target (residue p c))) (stops (e at).0 TooManyTerms)) ((Decides-ltb s.terms TERMS).1 j.few))
+      (λ at. (e at).1 ∙ ap (λ b. cond b (goes (with_count s) (Target (residue p c))) (stops (e at).0 TooManyTerms)) ((Decides-ltb s.terms most_terms).1 j.few))
       (λ _. one (with_count s) now (Target (residue p c)) (λ _. Further) (number t) ls (λ at. ap (judged at Further) j.joins) (λ _. h))
 
   abbrev first_due : ℕ → ℤ → Due
@@ -114,7 +113,7 @@ module _ (p end : ℕ) (content : Content) where
       → all.next ≡ all.content.top + 1 → content ≡ all.content → Reads s due (spelled items)
   items_read [] s all b due st g w e = at_end s b due st (rw g at w) (rw g at e)
   items_read (degree k n ∷ items) s all b due st g w e =
-      one s s due (λ _. Degree s.next) (word DIMENSION) (number k ∷ mark 58 ∷ number n ∷ spelled items) (λ at. dimension_step s b due at st g.1.0)
+      one s s due (λ _. Degree s.next) (word dimension_word) (number k ∷ mark 58 ∷ number n ∷ spelled items) (λ at. dimension_step s b due at st g.1.0)
       (λ _. one s s (Degree s.next) (λ _. Colon s.next) (number k) (mark 58 ∷ number n ∷ spelled items)
       (λ at. ap (λ x. cond x (goes s (Colon s.next)) (stops at BadNumber)) ((Decides-int_eq k (pos s.next)).1 g.1.1))
       (λ _. one s s (Colon s.next) (λ _. Count s.next) (mark 58) (number n ∷ spelled items) (λ at. refl)
@@ -137,8 +136,8 @@ module _ (p end : ℕ) (content : Content) where
 
   pub heading_read : (s now : Known) (top : ℤ) (ls : List Lexeme) → with_top s top ≡ Ok now → Reads now Between ls → Reads s Chain (heading top ls)
   heading_read s now top ls e h =
-      one s s Chain (λ _. Complex) (word CHAIN) _ (λ at. word_found CHAIN (goes s Complex) at)
-      (λ _. one s s Complex (λ _. Max) (word COMPLEX) _ (λ at. word_found COMPLEX (goes s Max) at)
-      (λ _. one s s Max (λ _. Dimension) (word MAX) _ (λ at. word_found MAX (goes s Dimension) at)
-      (λ _. one s s Dimension (λ _. Top) (word DIMENSION) _ (λ at. word_found DIMENSION (goes s Top) at)
+      one s s Chain (λ _. Complex) (word chain_word) _ (λ at. word_found chain_word (goes s Complex) at)
+      (λ _. one s s Complex (λ _. Max) (word complex_word) _ (λ at. word_found complex_word (goes s Max) at)
+      (λ _. one s s Max (λ _. Dimension) (word max_word) _ (λ at. word_found max_word (goes s Dimension) at)
+      (λ _. one s s Dimension (λ _. Top) (word dimension_word) _ (λ at. word_found dimension_word (goes s Top) at)
       (λ _. one s now Top (λ _. Between) (number top) ls (λ at. ap (judged at Between) e) (λ _. h)))))

@@ -15,8 +15,7 @@ use Rattle.chain_files.specs.declared.due.Due.{Due}
 use Rattle.chain_files.specs.declared.due.Due.TheVariants.{Chain, Complex, Max, Dimension, Top, Between, Degree, Colon, Count, Generator, Equals, First, Zero, Times, Target, Further, Coefficient}
 use Rattle.chain_files.specs.declared.fault.ChainCause.{ChainCause}
 use Rattle.chain_files.specs.declared.fault.ChainCause.TheVariants.{BadByte, BadNumber, TooManyTerms, Unclosed}
-use Rattle.chain_files.specs.declared.fault.TheConstants.{TERMS}
-use Rattle.chain_files.specs.declared.words.TheConstants.{CHAIN, COMPLEX, MAX, DIMENSION}
+use Rattle.chain_files.specs.Numbers.{most_terms, chain_word, complex_word, max_word, dimension_word}
 use Rattle.chain_files.proofs.Deciding.{le_told, zero_mod, on_test, and_both}
 use Rattle.chain_files.proofs.Refusing.{read_end, read_unclosed}
 use Rattle.chain_files.proofs.Following.{Rest, Token, Made, AtDegree, AtTimes, AtCoefficient, AtFirst, AtEquals, AtGenerator, Follows}
@@ -64,24 +63,24 @@ module _ (f : Known → Due → Outcome) (content : Content) where
   told_judged at due (Err cause) h = absurd (err_is_no_ok _ content h)
 
   told_between : (s : Known) (at : ℕ) (l : Lexeme) → On (between s at l) f ≡ Ok content
-      → ((l ≡ mark 35) × (0 < s.next) × (f s Generator ≡ Ok content)) ⊎ ((l ≡ word DIMENSION) × (s.next ≤ s.content.top) × (f s (Degree s.next) ≡ Ok content))
+      → ((l ≡ mark 35) × (0 < s.next) × (f s Generator ≡ Ok content)) ⊎ ((l ≡ word dimension_word) × (s.next ≤ s.content.top) × (f s (Degree s.next) ≡ Ok content))
   told_between s at (mark b) h =
       let e = found (b == 35 && nat_lt 0 s.next) (goes s Generator) at BadByte h in
       let both = and_both (b == 35) (nat_lt 0 s.next) e.0 in
       inl (ap mark (eqb-true b 35 both.0), (Decides-ltb 0 s.next).0 both.1, e.1)
   told_between s at (word w) h =
-      let e = found (bytes_eq DIMENSION w && nat_le s.next s.content.top) (goes s (Degree s.next)) at BadByte h in
-      let both = and_both (bytes_eq DIMENSION w) (nat_le s.next s.content.top) e.0 in
-      inr (ap word (sym ((bytes_eq-Decides DIMENSION w).0 both.0)), le_told s.next s.content.top both.1, e.1)
+      let e = found (bytes_eq dimension_word w && nat_le s.next s.content.top) (goes s (Degree s.next)) at BadByte h in
+      let both = and_both (bytes_eq dimension_word w) (nat_le s.next s.content.top) e.0 in
+      inr (ap word (sym ((bytes_eq-Decides dimension_word w).0 both.0)), le_told s.next s.content.top both.1, e.1)
   told_between s at (number z) h = absurd (err_is_no_ok _ content h)
   told_between s at wide h = absurd (err_is_no_ok _ content h)
   told_between s at arrow h = absurd (err_is_no_ok _ content h)
   told_between s at (other b) h = absurd (err_is_no_ok _ content h)
 
-  told_times : (s : Known) (place c : ℕ) → On (times s place c) f ≡ Ok content → (s.terms < TERMS) × (f (with_count s) (Target c) ≡ Ok content)
+  told_times : (s : Known) (place c : ℕ) → On (times s place c) f ≡ Ok content → (s.terms < most_terms) × (f (with_count s) (Target c) ≡ Ok content)
   told_times s place c h =
-      let e = found (nat_lt s.terms TERMS) (goes (with_count s) (Target c)) place TooManyTerms h in
-      ((Decides-ltb s.terms TERMS).0 e.0, e.1)
+      let e = found (nat_lt s.terms most_terms) (goes (with_count s) (Target c)) place TooManyTerms h in
+      ((Decides-ltb s.terms most_terms).0 e.0, e.1)
 
   told_mark_or : (wanted : ℕ) (x y : Step) (l : Lexeme) → On (cond (is_the_mark wanted l) x y) f ≡ Ok content
       → ((l ≡ mark wanted) × (On x f ≡ Ok content)) ⊎ (On y f ≡ Ok content)
@@ -97,14 +96,14 @@ module _ (f : Known → Due → Outcome) (content : Content) where
 -- items that begin in front of what follows
 
 degree_rest : (p : ℕ) (s : Known) (b : Bool) (content : Content) (ls : List Lexeme) → s.next ≤ s.content.top
-    → AtDegree p s s.next content ls → Rest p s b content (word DIMENSION ∷ ls)
+    → AtDegree p s s.next content ls → Rest p s b content (word dimension_word ∷ ls)
 degree_rest p s b content ls le h =
     let made = h.then.then in
     let rest = made.token.then in
     record {
       items = degree (pos s.next) made.z ∷ rest.items;
       all = rest.all;
-      spelling = ap (λ l. word DIMENSION ∷ l) (h.is ∙ ap (λ l. number (pos s.next) ∷ l) (h.then.is ∙ ap (λ l. mark 58 ∷ l) (made.token.is ∙ ap (λ l. number made.z ∷ l) rest.spelling)));
+      spelling = ap (λ l. word dimension_word ∷ l) (h.is ∙ ap (λ l. number (pos s.next) ∷ l) (h.then.is ∙ ap (λ l. mark 58 ∷ l) (made.token.is ∙ ap (λ l. number made.z ∷ l) rest.spelling)));
       gathers = (made.now, (le, refl, made.made), rest.gathers);
       whole = rest.whole;
       is_content = rest.is_content;
@@ -243,10 +242,10 @@ module _ (p end : ℕ) (content : Content) (ts : List (ℕ × Lexeme)) (more : (
       h
 
   by_step : (s : Known) (due : Due) (at : ℕ) (l : Lexeme) → On (step p s due at l) on ≡ Ok content → Follows p s due content (l ∷ said ts)
-  by_step s Chain at l h = let w = told_word on content CHAIN s Complex at l h in token (word CHAIN) _ l (said ts) w.0 (more s Complex w.1)
-  by_step s Complex at l h = let w = told_word on content COMPLEX s Max at l h in token (word COMPLEX) _ l (said ts) w.0 (more s Max w.1)
-  by_step s Max at l h = let w = told_word on content MAX s Dimension at l h in token (word MAX) _ l (said ts) w.0 (more s Dimension w.1)
-  by_step s Dimension at l h = let w = told_word on content DIMENSION s Top at l h in token (word DIMENSION) _ l (said ts) w.0 (more s Top w.1)
+  by_step s Chain at l h = let w = told_word on content chain_word s Complex at l h in token (word chain_word) _ l (said ts) w.0 (more s Complex w.1)
+  by_step s Complex at l h = let w = told_word on content complex_word s Max at l h in token (word complex_word) _ l (said ts) w.0 (more s Max w.1)
+  by_step s Max at l h = let w = told_word on content max_word s Dimension at l h in token (word max_word) _ l (said ts) w.0 (more s Dimension w.1)
+  by_step s Dimension at l h = let w = told_word on content dimension_word s Top at l h in token (word dimension_word) _ l (said ts) w.0 (more s Top w.1)
   by_step s Top at l h = by_made (with_top s) Between at l (λ now. Rest p now false content) (λ now e. more now Between e) h
   by_step s Between at l h = by_between s false at l h
   by_step s (Degree k) at l h =

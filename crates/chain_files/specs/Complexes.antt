@@ -25,11 +25,12 @@ pub record AreCountsBelow (degrees : List ℕ) (top : ℕ) (counts : List ℕ) :
 
 -- The generators with these degrees are numbered degree by degree, up to the greatest.
 pub record AreByDegree (top : ℕ) (degrees : List ℕ) : Type 0 where
-  pub ascending : (i j : ℕ) → i ≤ j → j < length degrees → slice_index degrees i ≤ slice_index degrees j
+  pub ascending : (i j : ℕ) → i ≤ j → j < length degrees → slice_index degrees i
+      ≤ slice_index degrees j
   pub most : (i : ℕ) → i < length degrees → slice_index degrees i ≤ top
 
--- The complex of a file modulo p: the generators of the file with their degrees, and as incidence number of two of them the sum of
--- the coefficients in the terms of the one that name the other.
+-- The complex of a file modulo p: the generators of the file with their degrees, and as incidence
+-- number of two of them the sum of the coefficients in the terms of the one that name the other.
 pub record IsFileComplex (p : ℕ) (content : Content) (file : FileComplex) : Type 0 where
   pub top : file.top ≡ content.top
   pub degrees : file.complex.degrees ≡ content.degrees
@@ -37,24 +38,29 @@ pub record IsFileComplex (p : ℕ) (content : Content) (file : FileComplex) : Ty
   pub incidences : (h g : ℕ) → h < length content.boundaries
       → incidence file.complex.boundaries h g ≡ incidence (terms_of content.boundaries) h g % p
 
--- The generators and terms as they stand in the file, where the terms of one generator are neither summed nor sorted.
+-- The generators and terms as they stand in the file, where the terms of one generator are neither
+-- summed nor sorted.
 abbrev pub listed : Content → ChainComplex
 listed content = record { degrees = content.degrees; boundaries = terms_of content.boundaries }
 
--- The number of a generator in its degree, from 1 on: how many generators up to it have that degree.
+-- The number of a generator in its degree, from 1 on: how many generators up to it have that
+-- degree.
 abbrev pub number_in_degree : List ℕ → ℕ → ℕ
 number_in_degree degrees h = count_in (take h degrees) (slice_index degrees h) + 1
 
--- A chain of degree k whose terms name generators by their numbers in that degree, as a function of all generators of a file.
+-- A chain of degree k whose terms name generators by their numbers in that degree, as a function of
+-- all generators of a file.
 abbrev pub chain_in_degree : List ℕ → ℕ → List (ℕ × ℕ) → ℕ → ℕ
-chain_in_degree degrees k ts h = if slice_index degrees h == k then coefficient ts (number_in_degree degrees h) else 0
+chain_in_degree degrees k ts h = if slice_index degrees h == k
+    then coefficient ts (number_in_degree degrees h) else 0
 
--- What stands in the file is a complex modulo p: the boundary of the boundary of each generator is 0.
+-- What stands in the file is a complex modulo p: the boundary of the boundary of each generator is
+-- 0.
 abbrev pub SquaresToZero : ℕ → Content → Type 0
 SquaresToZero p content = (h g : ℕ) → ¬ IsNotZero p (terms_of content.boundaries) h g
 
--- The boundary of the boundary of a generator is not 0 modulo p at another one, and these are the first two for which that holds,
--- by degree and number in the degree.
+-- The boundary of the boundary of a generator is not 0 modulo p at another one, and these are the
+-- first two for which that holds, by degree and number in the degree.
 pub record IsNotComplexAt (p : ℕ) (content : Content) (degree generator at value : ℕ) : Type 0 where
   pub h : ℕ
   pub g : ℕ
@@ -62,4 +68,5 @@ pub record IsNotComplexAt (p : ℕ) (content : Content) (degree generator at val
   pub degree_is : degree ≡ slice_index content.degrees h
   pub generator_is : generator ≡ number_in_degree content.degrees h
   pub at_is : at ≡ number_in_degree content.degrees g
-  pub value_is : value ≡ boundary (terms_of content.boundaries) (incidence (terms_of content.boundaries) h) g % p
+  pub value_is : value ≡ boundary (terms_of content.boundaries)
+      (incidence (terms_of content.boundaries) h) g % p

@@ -9,5 +9,6 @@ use Rattle.chain_files.specs.declared.fault.ChainFault.TheVariants.{At, NotCompl
 -- The text is refused there; or its value is no complex; or no memory was left.
 abbrev pub IsFaultOf : ℕ → List ℕ → ChainFault → Type 0
 IsFaultOf p text (At place cause) = IsRefusedAt p text place cause
-IsFaultOf p text (NotComplex degree generator at value) = (content : Content) × HasValue p text content × IsNotComplexAt p content degree generator at value
+IsFaultOf p text (NotComplex degree generator at value) = (content : Content)
+    × HasValue p text content × IsNotComplexAt p content degree generator at value
 IsFaultOf p text NoMemory = Unit {0}

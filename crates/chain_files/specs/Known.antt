@@ -4,10 +4,11 @@ use Rattle.chain_files.specs.Content.{Boundary, not_given, Content}
 use Rattle.chain_files.specs.declared.block.Block.{Block}
 use Rattle.chain_files.specs.declared.fault.ChainCause.{ChainCause}
 use Rattle.chain_files.specs.declared.fault.ChainCause.TheVariants.{BadNumber, UnknownGenerator, RepeatedGenerator, TooManyGenerators}
-use Rattle.chain_files.specs.declared.fault.TheConstants.{GENERATORS, MAX_DEGREE}
+use Rattle.chain_files.specs.Numbers.{most_generators, greatest_degree}
 
--- What the file says so far; the degree that comes next; the generators of the last degree, `here`, and of the one before, `below`;
--- how many terms there are; and the generator whose boundary came last.
+-- What the file says so far; the degree that comes next; the generators of the last degree, `here`,
+-- and of the one before, `below`; how many terms there are; and the generator whose boundary came
+-- last.
 pub record Known : Type 0 where
   pub content : Content
   pub next : ℕ
@@ -36,12 +37,14 @@ residue p (negsuc n) = p - 1 - n % p
 
 -- The number of the generator that a file calls z; in each degree these are numbered from 1 on.
 abbrev pub number_in : Block → ℤ → Option ℕ
-number_in block (pos n) = if nat_lt 0 n && nat_le n block.count then Some (block.first + (n - 1)) else None
+number_in block (pos n) = if nat_lt 0 n && nat_le n block.count then Some (block.first + (n - 1))
+    else None
 number_in block (negsuc n) = None
 
 -- The greatest degree is read.
 abbrev pub with_top : Known → ℤ → Result Known ChainCause
-with_top s (pos n) = if nat_le n MAX_DEGREE then Ok (record s { content = record s.content { top = n } }) else Err BadNumber
+with_top s (pos n) = if nat_le n greatest_degree
+    then Ok (record s { content = record s.content { top = n } }) else Err BadNumber
 with_top s (negsuc n) = Err BadNumber
 
 -- So many generators of a degree.
@@ -59,7 +62,8 @@ with_generators s degree n = record s {
 -- How many generators the degree has is read.
 abbrev pub with_degree : Known → ℕ → ℤ → Result Known ChainCause
 with_degree s degree (pos n) =
-    if nat_le (s.here.first + s.here.count + n) GENERATORS then Ok (with_generators s degree n) else Err TooManyGenerators
+    if nat_le (s.here.first + s.here.count + n) most_generators then Ok (with_generators s degree n)
+    else Err TooManyGenerators
 with_degree s degree (negsuc n) = Err BadNumber
 
 -- The boundary of a generator begins, and none of it stood before.
@@ -67,7 +71,11 @@ abbrev pub boundary_at : Known → ℕ → Boundary
 boundary_at s h = slice_index_or s.content.boundaries h not_given
 
 abbrev pub with_boundary_at : Known → ℕ → Boundary → Known
-with_boundary_at s h b = record s { content = record s.content { boundaries = slice_set s.content.boundaries h b }; last = h }
+with_boundary_at s h b = record s {
+  content = record s.content
+      { boundaries = slice_set s.content.boundaries h b };
+  last = h;
+}
 
 abbrev pub opened : Known → Option ℕ → Result Known ChainCause
 opened s None = Err UnknownGenerator
@@ -81,7 +89,8 @@ with_boundary s z = opened s (number_in s.here z)
 abbrev pub with_count : Known → Known
 with_count s = record s { terms = s.terms + 1 }
 
--- The generator of a term with this coefficient is read; the term belongs to the boundary that came last.
+-- The generator of a term with this coefficient is read; the term belongs to the boundary that came
+-- last.
 abbrev pub joined : Known → ℕ → Option ℕ → Result Known ChainCause
 joined s number None = Err UnknownGenerator
 joined s number (Some g) = Ok (with_boundary_at s s.last (record {

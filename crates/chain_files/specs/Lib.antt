@@ -1,10 +1,13 @@
 pub mod Content
+pub mod Numbers
 pub mod Known
 pub mod Items
 pub mod Steps
 pub mod ChainFile
 pub mod Reading
 pub mod Laws
+pub mod Refusals
+pub mod Parts
 pub mod Complexes
 pub mod Faults
 pub mod Readers

@@ -10,10 +10,12 @@ use Rattle.chain_files.specs.declared.fault.ChainFault.{ChainFault}
 use Rattle.chain_files.specs.declared.fault.ChainFault.TheVariants.{At, NotComplex, NoMemory}
 
 -- the chains of the boundaries modulo p
-pub record AreChains (p : ℕ) (boundaries : List Boundary) (chains : List (List (ℕ × ℕ))) : Type 0 where
-  pub long : length chains ≡ length boundaries
-  pub each : (h g : ℕ) → h < length boundaries
-      → coefficient (slice_index_or chains h []) g ≡ coefficient (slice_index_or boundaries h not_given).terms g % p
+pub record AreChains (p : ℕ) (boundaries : List Boundary) (chains : List (List (ℕ × ℕ))) : Type 0
+  where
+    pub long : length chains ≡ length boundaries
+    pub each : (h g : ℕ) → h < length boundaries
+        → coefficient (slice_index_or chains h []) g
+        ≡ coefficient (slice_index_or boundaries h not_given).terms g % p
 
 -- for each degree up to the greatest, how many generators have it
 pub record AreCounts (degrees : List ℕ) (top : ℕ) (counts : List ℕ) : Type 0 where
@@ -37,12 +39,14 @@ IsWithin n complexes.NoMemory = Unit {0}
 
 -- a fault in the words of a file, where its generators have these degrees
 abbrev pub in_words : List ℕ → ComplexFault → ChainFault
-in_words degrees (complexes.NotZero h g value) = NotComplex (slice_index degrees h) (number_in_degree degrees h) (number_in_degree degrees g) value
+in_words degrees (complexes.NotZero h g value) = NotComplex (slice_index degrees h)
+    (number_in_degree degrees h) (number_in_degree degrees g) value
 in_words degrees (complexes.BadDegree h g) = NoMemory
 in_words degrees complexes.NoMemory = NoMemory
 
 -- why there is no complex of a file
 abbrev pub IsComplexFault : ℕ → Content → ChainFault → Type 0
 IsComplexFault p content (At place cause) = ⊥
-IsComplexFault p content (NotComplex degree generator at value) = IsNotComplexAt p content degree generator at value
+IsComplexFault p content (NotComplex degree generator at value) = IsNotComplexAt p content degree
+    generator at value
 IsComplexFault p content NoMemory = Unit {0}

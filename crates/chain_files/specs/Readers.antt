@@ -9,7 +9,7 @@ use Rattle.chain_files.specs.declared.fault.ChainCause.{ChainCause}
 use Rattle.chain_files.specs.declared.fault.ChainCause.TheVariants.{Unclosed}
 use Rattle.chain_files.specs.declared.fault.ChainFault.{ChainFault}
 use Rattle.chain_files.specs.declared.fault.ChainFault.TheVariants as faults
-use Rattle.chain_files.specs.declared.fault.TheConstants.{GENERATORS, TERMS}
+use Rattle.chain_files.specs.Numbers.{most_generators, most_terms}
 use Rattle.chain_files.specs.declared.gathered.Refusal.{Refusal}
 use Rattle.chain_files.specs.declared.gathered.Refusal.TheVariants.{At, NoMemory}
 
@@ -18,8 +18,8 @@ pub record IsKnown (s : Known) : Type 0 where
   pub degrees : length s.content.degrees ≡ length s.content.boundaries
   pub here : s.here.first + s.here.count ≡ length s.content.boundaries
   pub below : s.below.first + s.below.count ≤ s.here.first
-  pub few : length s.content.boundaries ≤ GENERATORS
-  pub terms : s.terms ≤ TERMS
+  pub few : length s.content.boundaries ≤ most_generators
+  pub terms : s.terms ≤ most_terms
   pub last : s.last ≤ length s.content.boundaries - 1
 
 -- a number makes what is known, or is refused at its place
@@ -52,7 +52,8 @@ MayCome t r = WantsNoMemory r
 -- the end of the text: what was read, or the text is not whole
 abbrev pub Ends : Known → Due → ℕ → Result Known ChainFault → Type 0
 Ends s due place (Ok known) = (is_whole s due ≡ true) × (known ≡ s)
-Ends s due place (Err (faults.At at cause)) = (is_whole s due ≡ false) × (at ≡ place) × (cause ≡ Unclosed)
+Ends s due place (Err (faults.At at cause)) = (is_whole s due ≡ false) × (at ≡ place)
+    × (cause ≡ Unclosed)
 Ends s due place (Err fault) = ⊥
 
 abbrev pub fault_of : Refusal → ChainFault

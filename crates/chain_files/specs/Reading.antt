@@ -1,4 +1,5 @@
--- The reading of a chain file as a function of its tokens, by which the parts of the reader are told.
+-- The reading of a chain file as a function of its tokens, by which the parts of the reader are
+-- told.
 use Rattle.std.specs.Prelude.{ℕ, List, [], ◌∷◌, if◌then◌else◌, Result, Ok, Err}
 use Rattle.outside.specs.Tokens.{Lexeme}
 use Rattle.chain_files.specs.Content.{Content}
@@ -17,4 +18,5 @@ Outcome = Result Content (ℕ × ChainCause)
 
 abbrev pub read : ℕ → Known → Due → ℕ → List (ℕ × Lexeme) → Outcome
 read p s due end [] = if is_whole s due then Ok s.content else Err (end, Unclosed)
-read p s due end (t ∷ ts) = next (step p s due t.0 t.1) (λ s' due'. read p s' due' end ts) (λ place cause. Err (place, cause))
+read p s due end (t ∷ ts) = next (step p s due t.0 t.1) (λ s' due'. read p s' due' end ts)
+    (λ place cause. Err (place, cause))

@@ -8,8 +8,7 @@ use Rattle.chain_files.specs.declared.due.Due.{Due}
 use Rattle.chain_files.specs.declared.due.Due.TheVariants.{Chain, Complex, Max, Dimension, Top, Between, Degree, Colon, Count, Generator, Equals, First, Zero, Times, Target, Further, Coefficient}
 use Rattle.chain_files.specs.declared.fault.ChainCause.{ChainCause}
 use Rattle.chain_files.specs.declared.fault.ChainCause.TheVariants.{BadByte, BadNumber, TooManyTerms}
-use Rattle.chain_files.specs.declared.fault.TheConstants.{TERMS}
-use Rattle.chain_files.specs.declared.words.TheConstants.{CHAIN, COMPLEX, MAX, DIMENSION}
+use Rattle.chain_files.specs.Numbers.{most_terms, chain_word, complex_word, max_word, dimension_word}
 
 -- A token leads on, to what is known and due behind it; or the text is refused at a place.
 pub data Step : Type 0 where
@@ -38,7 +37,8 @@ judged at due (Err cause) = stops at cause
 -- Between two boundaries: `#` begins one where a degree stands open, `dimension` the next degree.
 abbrev pub between : Known → ℕ → Lexeme → Step
 between s at (mark b) = if b == 35 && nat_lt 0 s.next then goes s Generator else stops at BadByte
-between s at (word w) = if bytes_eq DIMENSION w && nat_le s.next s.content.top then goes s (Degree s.next) else stops at BadByte
+between s at (word w) = if bytes_eq dimension_word w && nat_le s.next s.content.top
+    then goes s (Degree s.next) else stops at BadByte
 between s at t = stops at BadByte
 
 abbrev pub is_the_mark : ℕ → Lexeme → Bool
@@ -47,21 +47,24 @@ is_the_mark wanted t = false
 
 -- Behind the coefficient at a place stands `*`, so that a term counts.
 abbrev pub times : Known → ℕ → ℕ → Step
-times s place c = if nat_lt s.terms TERMS then goes (with_count s) (Target c) else stops place TooManyTerms
+times s place c = if nat_lt s.terms most_terms then goes (with_count s) (Target c)
+    else stops place TooManyTerms
 
 abbrev pub step : ℕ → Known → Due → ℕ → Lexeme → Step
-step p s Chain at t = for_word CHAIN (goes s Complex) at t
-step p s Complex at t = for_word COMPLEX (goes s Max) at t
-step p s Max at t = for_word MAX (goes s Dimension) at t
-step p s Dimension at t = for_word DIMENSION (goes s Top) at t
+step p s Chain at t = for_word chain_word (goes s Complex) at t
+step p s Complex at t = for_word complex_word (goes s Max) at t
+step p s Max at t = for_word max_word (goes s Dimension) at t
+step p s Dimension at t = for_word dimension_word (goes s Top) at t
 step p s Top at t = for_number (λ z. judged at Between (with_top s z)) at t
 step p s Between at t = between s at t
-step p s (Degree k) at t = for_number (λ z. if int_eq z (pos k) then goes s (Colon k) else stops at BadNumber) at t
+step p s (Degree k) at t = for_number
+    (λ z. if int_eq z (pos k) then goes s (Colon k) else stops at BadNumber) at t
 step p s (Colon k) at t = for_mark 58 (goes s (Count k)) at t
 step p s (Count k) at t = for_number (λ z. judged at Between (with_degree s k z)) at t
 step p s Generator at t = for_number (λ z. judged at Equals (with_boundary s z)) at t
 step p s Equals at t = for_mark 61 (goes s First) at t
-step p s First at t = for_number (λ z. if int_eq z (pos 0) then goes s (Zero at) else goes s (Times at (residue p z))) at t
+step p s First at t = for_number (λ z. if int_eq z (pos 0) then goes s (Zero at)
+    else goes s (Times at (residue p z))) at t
 step p s (Zero place) at t = if is_the_mark 42 t then times s place 0 else between s at t
 step p s (Times place c) at t = for_mark 42 (times s place c) at t
 step p s (Target c) at t = for_number (λ z. judged at Further (with_term s c z)) at t

@@ -16,8 +16,9 @@ use field_mod::Field;
 use std::alloc::{AllocError, Global};
 use std::marker::Model;
 
-/// A chain complex over the numbers modulo `P` as a chain file gives it, with the greatest degree that the file names. Its
-/// generators are numbered from 0, degree by degree, and in a degree as in the file.
+/// A chain complex over the numbers modulo `P` as a chain file gives it, with the greatest degree
+/// that the file names. Its generators are numbered from 0, degree by degree, and in a degree as in
+/// the file.
 #[derive(Drop)]
 pub struct ChainFile<const P: u16> {
     top: u8,
@@ -33,7 +34,8 @@ impl<const P: u16> Model for ChainFile<P> {
 
     ghost view = { λ f. record { top = f.top; complex = f.complex } };
 
-    ghost invariant = { λ f. AreCounts f.complex.degrees f.top f.counts.items × AreByDegree f.top f.complex.degrees };
+    ghost invariant = { λ f. AreCounts f.complex.degrees f.top f.counts.items
+        × AreByDegree f.top f.complex.degrees };
 }
 
 impl<const P: u16> ChainFile<P> {
@@ -53,10 +55,11 @@ impl<const P: u16> ChainFile<P> {
         self.counts[degree as usize]
     }
 
-    /// For each degree up to the greatest, how many generators have a lower one: that many generators of the complex come before
-    /// those of the degree.
+    /// For each degree up to the greatest, how many generators have a lower one: that many
+    /// generators of the complex come before those of the degree.
     pub fn counts_below(&self, alloc: Global) -> Result<Vec<u32>, AllocError>
-        ensures { IfOk result (λ counts. AreCountsBelow self.now.complex.degrees self.now.top counts.items) }
+        ensures { IfOk result (λ counts. AreCountsBelow self.now.complex.degrees self.now.top
+            counts.items) }
     {
         // Its clauses say that there are few generators.
         let _len = self.complex.len();
@@ -71,15 +74,17 @@ impl<const P: u16> ChainFile<P> {
     }
 }
 
-/// The complex of a chain file: the value of the text, or the place and the cause of its refusal, or where its boundary of a
-/// boundary is not 0 first, by degree, generator and place. Terms are sorted; else the work grows with the text, and with the number
-/// of terms of boundaries of boundaries.
+/// The complex of a chain file: the value of the text, or the place and the cause of its refusal,
+/// or where its boundary of a boundary is not 0 first, by degree, generator and place. Terms are
+/// sorted; else the work grows with the text, and with the number of terms of boundaries of
+/// boundaries.
 pub fn read_complex<const P: u16>(
     alloc: Global,
     field: Field<P>,
     bytes: &[u8],
 ) -> Result<ChainFile<P>, ChainFault>
-    ensures value { IfOk result (λ file. (content : Content) × HasValue P bytes.now content × IsFileComplex P content file × IsComplex P file.complex) }
+    ensures value { IfOk result (λ file. (content : Content) × HasValue P bytes.now content
+        × IsFileComplex P content file × IsComplex P file.complex) }
     ensures refusal { IfErr result (IsFaultOf P bytes.now) }
 {
     let known = gather(alloc, field, bytes)?;
@@ -94,21 +99,16 @@ fn made<const P: u16>(
 ) -> Result<ChainFile<P>, ChainFault>
     requires graded { IsGraded known.content }
     requires numbered { AreByDegree known.content.top known.content.degrees }
-    ensures ok { IfOk result (λ file. IsFileComplex P known.content file × IsComplex P file.complex) }
+    ensures ok { IfOk result
+        (λ file. IsFileComplex P known.content file × IsComplex P file.complex) }
     ensures err { IfErr result (IsComplexFault P known.content) }
 {
     let top = known.top();
     let (degrees, entries) = known.into_parts();
-    let Ok(chains) = chains_of(alloc, field, entries.as_slice()) else {
-        return Err(ChainFault::NoMemory);
-    };
+    let chains = chains_of(alloc, field, entries.as_slice())?;
     drop(entries);
-    let Ok(counts) = counts_of(alloc, top, degrees.as_slice()) else {
-        return Err(ChainFault::NoMemory);
-    };
-    let Ok(kept) = Vec::from_slice(alloc, degrees.as_slice()) else {
-        return Err(ChainFault::NoMemory);
-    };
+    let counts = counts_of(alloc, top, degrees.as_slice())?;
+    let kept = Vec::from_slice(alloc, degrees.as_slice())?;
     match Complex::new(alloc, field, degrees, chains) {
         Ok(complex) => Ok(ChainFile {
             top,

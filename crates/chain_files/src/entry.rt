@@ -50,7 +50,8 @@ impl Entry {
 
     /// One more term: a generator and its coefficient.
     pub(crate) fn push(&mut self, generator: u32, number: u16) -> Result<(), AllocError>
-        ensures { OnOk result (self.new ≡ record { given = self.old.given; terms = self.old.terms ++ (generator, number) ∷ [] }) }
+        ensures { OnOk result (self.new ≡ record
+            { given = self.old.given; terms = self.old.terms ++ (generator, number) ∷ [] }) }
     {
         self.terms.push((generator, number))?;
         Ok(())

@@ -1,4 +1,5 @@
 //! The limits of a chain file, and why a text is refused.
+use std::alloc::AllocError;
 use thiserror::Error;
 
 /// Why a text is refused at a place.
@@ -29,8 +30,8 @@ pub enum ChainFault {
         place: u64,
         cause: ChainCause,
     },
-    /// The boundary of the boundary of a generator is `value`, which is not 0, at the generator `at` of two degrees less. Both are
-    /// numbered from 1 in their degree, as in the file.
+    /// The boundary of the boundary of a generator is `value`, which is not 0, at the generator
+    /// `at` of two degrees less. Both are numbered from 1 in their degree, as in the file.
     #[error("dimension {degree}: # {generator}: boundary of boundary has {value} * {at}")]
     NotComplex {
         degree: u8,
@@ -40,6 +41,17 @@ pub enum ChainFault {
     },
     #[error("out of memory")]
     NoMemory,
+}
+
+impl From<AllocError> for ChainFault {
+    ghost use Rattle.std.specs.Prelude.{◌≡◌};
+    ghost use Rattle.chain_files.specs.declared.fault.ChainFault.TheVariants.{NoMemory};
+
+    ghost from_gives = { λ _ fault. fault ≡ NoMemory };
+
+    fn from(_e: AllocError) -> ChainFault {
+        ChainFault::NoMemory
+    }
 }
 
 /// The greatest degree that a chain file may have.

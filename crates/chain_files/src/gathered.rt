@@ -3,7 +3,7 @@ ghost use Rattle.std.specs.Prelude.{◌≡◌, ◌<◌, ◌≤◌, ◌+◌, ◌^
 ghost use Rattle.chain_files.specs.Content.{Boundary, not_given};
 ghost use Rattle.chain_files.specs.Known.{nothing_known, with_top, with_degree, with_boundary, with_count, with_term};
 ghost use Rattle.chain_files.specs.Readers.{IsKnown, Makes};
-ghost use Rattle.chain_files.specs.declared.fault.TheConstants.{GENERATORS, TERMS};
+ghost use Rattle.chain_files.specs.Numbers.{most_generators, most_terms};
 
 use crate::block::Block;
 use crate::entry::Entry;
@@ -29,6 +29,17 @@ pub(crate) struct Gathered {
     entries: Vec<Entry>,
     terms: u32,
     last: u32,
+}
+
+impl From<AllocError> for Refusal {
+    ghost use Rattle.std.specs.Prelude.{◌≡◌};
+    ghost use Rattle.chain_files.specs.declared.gathered.Refusal.TheVariants.{NoMemory};
+
+    ghost from_gives = { λ _ refusal. refusal ≡ NoMemory };
+
+    fn from(_e: AllocError) -> Refusal {
+        Refusal::NoMemory
+    }
 }
 
 impl Model for Gathered {
@@ -77,7 +88,8 @@ fn extend_degrees(degrees: &mut Vec<u8>, degree: u8, n: u32) -> Result<(), Alloc
     Ok(())
 }
 
-// So many boundaries more, of which the file says nothing. Where memory is wanting they stay as they were.
+// So many boundaries more, of which the file says nothing. Where memory is wanting they stay as
+// they were.
 fn extend_entries(alloc: Global, entries: &mut Vec<Entry>, n: u32) -> Result<(), AllocError>
     ensures ok { OnOk result (entries.new.items ≡ entries.old.items ++ replicate n not_given) }
     ensures err { OnErr result (entries.new.items ≡ entries.old.items) }
@@ -141,9 +153,7 @@ impl Gathered {
             return refused(place, ChainCause::TooManyGenerators);
         }
         let count = count as u32;
-        let Ok(()) = extend_degrees(&mut self.degrees, degree, count) else {
-            return Err(Refusal::NoMemory);
-        };
+        extend_degrees(&mut self.degrees, degree, count)?;
         let Ok(()) = extend_entries(alloc, &mut self.entries, count) else {
             self.degrees.truncate(first as usize);
             return Err(Refusal::NoMemory);
@@ -183,7 +193,7 @@ impl Gathered {
 
     /// One more term counts.
     pub(crate) fn count_term(&mut self)
-        requires { self.old.terms < TERMS }
+        requires { self.old.terms < most_terms }
         ensures { self.new ≡ with_count self.old }
     {
         self.terms += 1;
@@ -196,12 +206,7 @@ impl Gathered {
         let Some(generator) = self.below.number(z) else {
             return refused(place, ChainCause::UnknownGenerator);
         };
-        if self.entries[self.last as usize]
-            .push(generator, number)
-            .is_err()
-        {
-            return Err(Refusal::NoMemory);
-        }
+        self.entries[self.last as usize].push(generator, number)?;
         Ok(())
     }
 

@@ -16,11 +16,6 @@ mod words;
 pub use chain_file::{ChainFile, read_complex};
 pub use fault::{ChainCause, ChainFault, GENERATORS, MAX_DEGREE, TERMS};
 pub use laws::{
-    bases_are_of_the_file, file_complexes_are_complexes, texts_have_one_outcome,
-    values_have_one_outcome,
+    bases_are_of_the_file, file_complexes_are_complexes, numbers_are_the_formats,
+    refusals_are_first, texts_have_one_outcome, values_are_by_parts, values_have_one_outcome,
 };
-
-#[cfg(test)]
-mod fault_tests;
-#[cfg(test)]
-mod tests;

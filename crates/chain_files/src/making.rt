@@ -2,7 +2,7 @@
 ghost use Rattle.std.specs.Prelude.{◌≡◌, ◌<◌, ◌≤◌, ◌^◌, length, sum, IfOk};
 ghost use Rattle.chain_files.specs.Complexes.{count_in, number_in_degree};
 ghost use Rattle.chain_files.specs.Making.{AreChains, AreCounts, AreSumsBefore, IsWithin, in_words};
-ghost use Rattle.chain_files.specs.declared.fault.TheConstants.{GENERATORS};
+ghost use Rattle.chain_files.specs.Numbers.{most_generators};
 
 use crate::entry::Entry;
 use crate::fault::ChainFault;
@@ -27,7 +27,7 @@ pub(crate) fn chains_of<const P: u16>(
 
 /// How many generators each degree up to the greatest has.
 pub(crate) fn counts_of(alloc: Global, top: u8, degrees: &[u8]) -> Result<Vec<u32>, AllocError>
-    requires { length degrees.now ≤ GENERATORS }
+    requires { length degrees.now ≤ most_generators }
     ensures { IfOk result (λ counts. AreCounts degrees.now top counts.items) }
 {
     let mut counts = Vec::from_elem(alloc, 0u32, top as usize + 1)?;

@@ -1,4 +1,5 @@
-//! The reader of chain files: a machine of fixed size over tokens, beside what the file has said so far.
+//! The reader of chain files: a machine of fixed size over tokens, beside what the file has said so
+//! far.
 ghost use Rattle.std.specs.Prelude.{◌≡◌, ℕ, Some, Result, Err, IfErr, if◌then◌else◌};
 ghost use Rattle.outside.specs.Tokens.{Lexeme, number, word, mark, wide};
 ghost use Rattle.outside.specs.Lexing.{said};
@@ -34,7 +35,8 @@ fn refused(place: u64, cause: ChainCause) -> Result<Due, Refusal>
 
 // One word is wanted.
 fn expect_word(wanted: &[u8], found: Due, place: u64, letters: &[u8]) -> Result<Due, Refusal>
-    ensures turns { (s : Known) → Turns (for_word wanted.now (goes s found) place (word letters.now)) s result }
+    ensures turns { (s : Known) → Turns (for_word wanted.now (goes s found) place
+        (word letters.now)) s result }
     ensures memory { IfErr result WantsNoMemory }
 {
     if wanted == letters {
@@ -58,7 +60,8 @@ fn expect_mark(wanted: u8, found: Due, place: u64, b: u8) -> Result<Due, Refusal
 
 // What a number makes is kept, and then this is due.
 fn then(made: Result<(), Refusal>, due: Due) -> Result<Due, Refusal>
-    ensures { (number : Result Known ChainCause) (place : ℕ) (s : Known) → Makes number place s made → Turns (judged place due number) s result }
+    ensures { (number : Result Known ChainCause) (place : ℕ) (s : Known) → Makes number place s made
+        → Turns (judged place due number) s result }
 {
     match made {
         Ok(()) => Ok(due),
@@ -107,7 +110,8 @@ fn times(known: &mut Gathered, place: u64, number: u16) -> Result<Due, Refusal>
 
 // Whether a number is due.
 fn wants_number(due: Due) -> bool
-    ensures { (p : ℕ) (s : Known) (place : ℕ) → step p s due place wide ≡ stops place (if result then BadNumber else BadByte) }
+    ensures { (p : ℕ) (s : Known) (place : ℕ) → step p s due place wide
+        ≡ stops place (if result then BadNumber else BadByte) }
 {
     matches!(
         due,
@@ -136,7 +140,8 @@ impl<const P: u16> Reader<P> {
 
     // A number at a place. Numbers alone want memory.
     fn number(&mut self, alloc: Global, place: u64, z: i64) -> Result<Due, Refusal>
-        ensures { Turns (step P self.old.known self.old.due place (number z)) self.new.known result }
+        ensures { Turns (step P self.old.known self.old.due place (number z)) self.new.known
+            result }
     {
         match self.due {
             Due::Top => then(self.known.set_top(place, z), Due::Between),
@@ -159,7 +164,8 @@ impl<const P: u16> Reader<P> {
 
     // A word at a place.
     fn word(&self, place: u64, letters: &[u8]) -> Result<Due, Refusal>
-        ensures turns { Turns (step P self.now.known self.now.due place (word letters.now)) self.now.known result }
+        ensures turns { Turns (step P self.now.known self.now.due place (word letters.now))
+            self.now.known result }
         ensures memory { IfErr result WantsNoMemory }
     {
         match self.due {
@@ -176,7 +182,8 @@ impl<const P: u16> Reader<P> {
 
     // A mark at a place.
     fn mark(&mut self, place: u64, b: u8) -> Result<Due, Refusal>
-        ensures turns { Turns (step P self.old.known self.old.due place (mark b)) self.new.known result }
+        ensures turns { Turns (step P self.old.known self.old.due place (mark b)) self.new.known
+            result }
         ensures memory { IfErr result WantsNoMemory }
     {
         match self.due {
@@ -192,7 +199,8 @@ impl<const P: u16> Reader<P> {
 
     // The token at a place, and what is due behind it.
     fn turn(&mut self, alloc: Global, place: u64, token: Token<'_>) -> Result<Due, Refusal>
-        ensures turns { (t : Lexeme) → said token.entry ≡ Some t → Turns (step P self.old.known self.old.due place t) self.new.known result }
+        ensures turns { (t : Lexeme) → said token.entry ≡ Some t
+            → Turns (step P self.old.known self.old.due place t) self.new.known result }
         ensures memory { IfErr result (MayCome token.entry) }
     {
         match token {
@@ -213,7 +221,9 @@ impl<const P: u16> Reader<P> {
         place: u64,
         token: Token<'_>,
     ) -> Result<(), Refusal>
-        ensures takes { (t : Lexeme) → said token.entry ≡ Some t → Takes (step P self.old.known self.old.due place t) self.new.known self.new.due result }
+        ensures takes { (t : Lexeme) → said token.entry ≡ Some t
+            → Takes (step P self.old.known self.old.due place t)
+            self.new.known self.new.due result }
         ensures memory { IfErr result (MayCome token.entry) }
     {
         match self.turn(alloc, place, token) {

@@ -15,11 +15,12 @@ use Rattle.elem_cubes.proofs.Ranges.{faces_stay_in_range}
 use Rattle.cube_sets.specs.Sorted.{has, union_of}
 use Rattle.cube_sets.specs.Sets.{Members, IsCubeSet, is_member}
 use Rattle.cube_sets.specs.Closures.{is_cell_of, cells_of, closure, CellsAreFaces}
-use Rattle.cube_sets.specs.Changes.{spread}
+use Rattle.cube_sets.specs.Changes.{spread, spread_set}
+use Rattle.cube_sets.specs.declared.change.Change.{Change}
 use Rattle.cube_sets.specs.declared.change.Change.TheVariants.{LowerEnd, UpperEnd}
 use Rattle.cube_sets.proofs.Merging.{sorted-union}
 use Rattle.cube_sets.proofs.Sorting.{and_true}
-use Rattle.cube_sets.proofs.SameSets.{same_sets}
+use Rattle.cube_sets.proofs.SameSets.{same_sets, same_members}
 use Rattle.cube_sets.proofs.Spreading.{spread_face, face_spread}
 use Rattle.cube_sets.proofs.Spreads.{or_left, or_right, has_In, In_has, union_In, In_union, all_from_In, In_passes, sorted_spread, spread_In, In_spread}
 
@@ -91,14 +92,20 @@ pub spread_cells : (n : ℕ) (x : List (List Factor)) → IsStrictlySortedBy cel
 spread_cells n x h alike = same_sets (spread LowerEnd UpperEnd n x) (cells_of x) (sorted_spread LowerEnd UpperEnd n x h) (sorted_set (flat_map closure_of x))
     (λ q. spread_covers n x q alike ∙ sym (cells_cover x q))
 
-pub spread_in_range : (set : Members) → IsCubeSet set → list_all (list_all is_file_factor) (spread LowerEnd UpperEnd set.dimension set.cells) ≡ true
-spread_in_range set is = ap (list_all (list_all is_file_factor)) (spread_cells set.dimension set.cells is.sorted is.alike) ∙ in_range set.dimension (cells_of set.cells) (cells_alike set.dimension set.cells is.alike)
-
-pub closure_is_set : (set : Members) → IsCubeSet set → length (cells_of set.cells) < 2 ^ 32 → IsCubeSet (closure set)
-closure_is_set set is few = record {
+-- a set spread along all axes is a set, if its cells are those of one and not too many
+pub spread_is_set : (c d : Change) (set : Members) → IsCubeSet set → list_all (is_member set.dimension) (spread_set c d set).cells ≡ true
+    → length (spread_set c d set).cells < 2 ^ 32 → IsCubeSet (spread_set c d set)
+spread_is_set c d set is alike few = record {
   axes = is.axes;
-  unknown = λ e. ap cells_of (is.unknown e);
-  alike = cells_alike set.dimension set.cells is.alike;
-  sorted = sorted_set (flat_map closure_of set.cells);
+  unknown = λ e. ap (λ n. spread c d n set.cells) e ∙ is.unknown e;
+  alike = alike;
+  sorted = sorted_spread c d set.dimension set.cells is.sorted;
   few = few;
 }
+
+-- spread to the ends it is the set of its cells
+pub spread_to_ends : (set : Members) → IsCubeSet set → spread_set LowerEnd UpperEnd set ≡ closure set
+spread_to_ends set is = same_members (spread_set LowerEnd UpperEnd set) (closure set) refl (spread_cells set.dimension set.cells is.sorted is.alike)
+
+pub ends_alike : (set : Members) → IsCubeSet set → list_all (is_member set.dimension) (spread_set LowerEnd UpperEnd set).cells ≡ true
+ends_alike set is = ap (list_all (is_member set.dimension)) (spread_cells set.dimension set.cells is.sorted is.alike) ∙ cells_alike set.dimension set.cells is.alike

@@ -1,6 +1,7 @@
 -- The neighbours of a set of full cubes: what they are, where they are all in range, and that spreading to the next cubes along all
 -- axes gives them.
-use Rattle.std.proofs.Common.{◌≡◌, inl, inr, ⊎_elim, ℕ, ◌<◌, ◌^◌, refl, sym, ap, ◌∙◌, arith, List, [], ◌∷◌, length, Bool, true, ◌&&◌, true≢false}
+use Rattle.std.proofs.Common.{◌≡◌, inl, inr, ⊎_elim, ℕ, refl, sym, ap, ◌∙◌, arith, List, [], ◌∷◌, length, Bool, true, ◌&&◌, true≢false}
+use Rattle.std.specs.Prelude.{Result, Ok, Err, OnOk}
 use Rattle.std.specs.List.{list_all, list_any, flat_map}
 use Rattle.std.specs.List.Sorted.{IsStrictlySortedBy}
 use Rattle.std.specs.Cmp.{both_ways}
@@ -11,10 +12,10 @@ use Rattle.elem_cubes.proofs.Members.{In, In-flat, flat-In}
 use Rattle.cube_sets.specs.Sorted.{has}
 use Rattle.cube_sets.specs.Sets.{Members, IsCubeSet, is_member}
 use Rattle.cube_sets.specs.Neighbours.{cells_meet, is_neighbour, around, neighbours_of, neighbourhood, are_full, are_in_range, is_inner, NeighboursMeet}
-use Rattle.cube_sets.specs.Changes.{spread}
+use Rattle.cube_sets.specs.Changes.{spread, spread_set}
 use Rattle.cube_sets.specs.declared.change.Change.TheVariants.{Down, Up}
 use Rattle.cube_sets.proofs.Sorting.{and_true}
-use Rattle.cube_sets.proofs.SameSets.{same_sets}
+use Rattle.cube_sets.proofs.SameSets.{same_sets, same_members}
 use Rattle.cube_sets.proofs.Near.{around_to, to_around, spread_near, near_spread, meets_length, inner_near, near_inner}
 use Rattle.cube_sets.proofs.Spreads.{or_left, or_right, has_In, In_has, union_In, In_union, all_from_In, In_passes, sorted_spread, spread_In, In_spread}
 use Rattle.cube_sets.proofs.Covering.{sorted_set, member_parts, member_of}
@@ -98,11 +99,14 @@ pub spread_neighbours : (n : ℕ) (x : List (List Factor)) → IsStrictlySortedB
 spread_neighbours n x h alike full = same_sets (spread Down Up n x) (neighbours_of x) (sorted_spread Down Up n x h) (sorted_set (flat_map around x))
     (λ q. spread_meets n x q alike full ∙ sym (neighbours_cover x q))
 
-pub neighbourhood_is_set : (set : Members) → IsCubeSet set → are_in_range (neighbours_of set.cells) ≡ true → length (neighbours_of set.cells) < 2 ^ 32 → IsCubeSet (neighbourhood set)
-neighbourhood_is_set set is range few = record {
-  axes = is.axes;
-  unknown = λ e. ap neighbours_of (is.unknown e);
-  alike = neighbours_alike set.dimension set.cells is.alike range;
-  sorted = sorted_set (flat_map around set.cells);
-  few = few;
-}
+-- spread to the next cubes a set of full cubes is the set of its neighbours
+pub spread_to_next : (set : Members) → IsCubeSet set → are_full set.cells ≡ true → spread_set Down Up set ≡ neighbourhood set
+spread_to_next set is full = same_members (spread_set Down Up set) (neighbourhood set) refl (spread_neighbours set.dimension set.cells is.sorted is.alike full)
+
+pub next_alike : (set : Members) → IsCubeSet set → are_full set.cells ≡ true → are_in_range (neighbours_of set.cells) ≡ true
+    → list_all (is_member set.dimension) (spread_set Down Up set).cells ≡ true
+next_alike set is full range = ap (list_all (is_member set.dimension)) (spread_neighbours set.dimension set.cells is.sorted is.alike full) ∙ neighbours_alike set.dimension set.cells is.alike range
+
+pub on_ok : {A E : Type 0} {P : Type 0} (r : Result A E) → P → OnOk r P
+on_ok (Ok x) p = p
+on_ok (Err x) p = tt

@@ -2,7 +2,7 @@
 use Rattle.std.specs.Prelude.{◌≡◌, ℤ, pos, negsuc, ◌+ℤ◌, int_le, int_lt, List, [], ◌∷◌, map, Bool, true, false, ◌&&◌}
 use Rattle.std.specs.List.{list_any, list_all, flat_map}
 use Rattle.std.specs.List.Sorted.{IsStrictlySortedBy}
-use Rattle.elem_cubes.specs.declared.range.TheConstants.{LOW, HIGH}
+use Rattle.elem_cubes.specs.Range.{least_end, greatest_end}
 use Rattle.elem_cubes.specs.Cells.{Factor, point, interval, low, high, is_wide, is_file_factor, lower_of}
 use Rattle.elem_cubes.specs.Order.{cell_cmp}
 use Rattle.cube_sets.specs.Sorted.{has, set_of}
@@ -50,7 +50,7 @@ are_in_range cells = list_all (list_all is_file_factor) cells
 
 -- the unit interval with this lower end can be moved either way within the range of the files; so can a full cube along each axis
 abbrev pub is_inner_end : ℤ → Bool
-is_inner_end z = int_lt LOW z && int_lt (z +ℤ pos 1) HIGH
+is_inner_end z = int_lt least_end z && int_lt (z +ℤ pos 1) greatest_end
 
 abbrev pub is_inner : List Factor → Bool
 is_inner q = list_all is_inner_end (lower_of q)

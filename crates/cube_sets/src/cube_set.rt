@@ -4,7 +4,8 @@ ghost use Rattle.std.specs.List.{list_all};
 ghost use Rattle.elem_cubes.specs.Cells.{Factor, is_file_factor};
 ghost use Rattle.elem_cubes.specs.Order.{cell_cmp};
 ghost use Rattle.cube_sets.specs.Sorted.{set_of, union_of, intersection_of, has};
-ghost use Rattle.cube_sets.specs.Sets.{is_member, IsCubeSet, holds, dimensions_agree};
+ghost use Rattle.cube_sets.specs.Sets.{is_member, IsCubeSet, IsUnion, IsIntersection, holds, dimensions_agree};
+ghost use Rattle.cube_sets.specs.Changes.{spread_set};
 ghost use Rattle.cube_sets.specs.Closures.{cells_of, closure};
 ghost use Rattle.cube_sets.specs.Neighbours.{neighbours_of, neighbourhood, are_full, are_in_range};
 
@@ -17,8 +18,8 @@ use elem_cubes::{Cell, MAX_EMBEDDING};
 use std::alloc::{AllocError, Global};
 use std::marker::Model;
 
-/// A set of cells of one embedding dimension, from 1 to `MAX_EMBEDDING`, or 0 where that is unknown and the set is empty. It
-/// is seen as its dimension and the sorted list of its members.
+/// A set of cells of one embedding dimension, from 1 to `MAX_EMBEDDING`, or 0 where that is unknown
+/// and the set is empty. It is seen as its dimension and the sorted list of its members.
 #[derive(Drop)]
 pub struct CubeSet {
     dimension: u8,
@@ -49,8 +50,8 @@ fn is_member(dimension: u8, cell: &Cell) -> bool
 }
 
 impl CubeSet {
-    /// The set of these cells; the same cell may stand more than once. All of them lie in the range of the files and have
-    /// this embedding dimension, which is 0 for an empty list alone.
+    /// The set of these cells; the same cell may stand more than once. All of them lie in the range
+    /// of the files and have this embedding dimension, which is 0 for an empty list alone.
     pub fn of_cells(dimension: u8, cells: Vec<Cell>) -> Result<CubeSet, AllocError>
         requires axes { dimension ≤ MAX_EMBEDDING }
         requires few { vec_len cells < 2 ^ 32 }
@@ -118,7 +119,7 @@ impl CubeSet {
         requires agree { IsTrue (dimensions_agree self.now.dimension other.now.dimension) }
         requires few { length self.now.cells + length other.now.cells < 2 ^ 32 }
         ensures dimension { IfOk result (λ s. s.dimension ≡ max self.now.dimension other.now.dimension) }
-        ensures members { IfOk result (λ s. (c : List Factor) → holds s c ≡ (holds self.now c || holds other.now c)) }
+        ensures members { IfOk result (IsUnion self.now other.now) }
         ensures cells { IfOk result (λ s. s.cells ≡ union_of cell_cmp self.now.cells other.now.cells) }
     {
         let cells = union_of_all(alloc, &self.cells, &other.cells)?;
@@ -133,14 +134,41 @@ impl CubeSet {
         requires agree { IsTrue (dimensions_agree self.now.dimension other.now.dimension) }
         requires few { length self.now.cells + length other.now.cells < 2 ^ 32 }
         ensures dimension { IfOk result (λ s. s.dimension ≡ max self.now.dimension other.now.dimension) }
-        ensures members { IfOk result (λ s. (c : List Factor) → holds s c ≡ (holds self.now c && holds other.now c)) }
-        ensures cells { IfOk result (λ s. s.cells ≡ intersection_of cell_cmp self.now.cells other.now.cells) }
+        ensures members { IfOk result (IsIntersection self.now other.now) }
+        ensures cells { IfOk result (λ s.
+            s.cells ≡ intersection_of cell_cmp self.now.cells other.now.cells) }
     {
         let cells = intersection(alloc, &self.cells, &other.cells)?;
         Ok(CubeSet {
             dimension: self.dimension.max(other.dimension),
             cells,
         })
+    }
+
+    // The members and the cells to which they are changed along all axes, or `TooMany` exactly where
+    // they are more than so many. All of these are of the set's dimension and in range.
+    fn spread_within(
+        &self,
+        alloc: Global,
+        changes: (Change, Change),
+        limit: u32,
+    ) -> Result<CubeSet, SetFault>
+        requires { IsTrue (list_all (is_member self.now.dimension)
+            (spread_set changes.0 changes.1 self.now).cells) }
+        ensures cells { IfOk result (λ s. s ≡ spread_set changes.0 changes.1 self.now) }
+        ensures few { OnOk result (length (spread_set changes.0 changes.1 self.now).cells ≤ limit) }
+        ensures many { result ≡ Err SetFault.TooMany
+            → limit < length (spread_set changes.0 changes.1 self.now).cells }
+        ensures range { result ≢ Err SetFault.Coordinates }
+    {
+        let axes = self.dimension as usize;
+        match spread(alloc, &self.cells, axes, changes, limit as usize)? {
+            Some(cells) => Ok(CubeSet {
+                dimension: self.dimension,
+                cells,
+            }),
+            None => Err(SetFault::TooMany),
+        }
     }
 
     /// The set of all faces of the members, or `TooMany` exactly where they are more than so many.
@@ -150,18 +178,9 @@ impl CubeSet {
         ensures many { result ≡ Err SetFault.TooMany → limit < length (cells_of self.now.cells) }
         ensures range { result ≢ Err SetFault.Coordinates }
     {
-        let ends = (Change::LowerEnd, Change::UpperEnd);
-        let axes = self.dimension as usize;
-        let Ok(found) = spread(alloc, &self.cells, axes, ends, limit as usize) else {
-            return Err(SetFault::NoMemory);
-        };
-        match found {
-            Some(cells) => Ok(CubeSet {
-                dimension: self.dimension,
-                cells,
-            }),
-            None => Err(SetFault::TooMany),
-        }
+        // The set is read here so that its invariant is known at the call.
+        let _ = &self.cells;
+        self.spread_within(alloc, (Change::LowerEnd, Change::UpperEnd), limit)
     }
 
     /// The set of all faces of the members, or `TooMany` exactly where they are more than `CUBES`.
@@ -181,30 +200,23 @@ impl CubeSet {
         self.cells.iter().all(|cell| cell.is_full())
     }
 
-    /// The set of all full cubes that share a point with a member; all members are full cubes. `Coordinates` comes exactly where one
-    /// of them has an end outside the range of the files, else `TooMany` exactly where they are more than `CUBES`.
+    /// The set of all full cubes that share a point with a member; all members are full cubes.
+    /// `Coordinates` comes exactly where one of them has an end outside the range of the files, else
+    /// `TooMany` exactly where they are more than `CUBES`.
     pub fn neighbourhood(&self, alloc: Global) -> Result<CubeSet, SetFault>
         requires { IsTrue (are_full self.now.cells) }
         ensures cells { IfOk result (λ s. s ≡ neighbourhood self.now) }
         ensures range { OnOk result (IsTrue (are_in_range (neighbours_of self.now.cells))) }
         ensures few { OnOk result (length (neighbours_of self.now.cells) ≤ CUBES) }
-        ensures coordinates { result ≡ Err SetFault.Coordinates → are_in_range (neighbours_of self.now.cells) ≡ false }
-        ensures many { result ≡ Err SetFault.TooMany → IsTrue (are_in_range (neighbours_of self.now.cells)) × (CUBES < length (neighbours_of self.now.cells)) }
+        ensures coordinates { result ≡ Err SetFault.Coordinates
+            → are_in_range (neighbours_of self.now.cells) ≡ false }
+        ensures many { result ≡ Err SetFault.TooMany
+            → IsTrue (are_in_range (neighbours_of self.now.cells))
+            × (CUBES < length (neighbours_of self.now.cells)) }
     {
         if !are_inner(&self.cells) {
             return Err(SetFault::Coordinates);
         }
-        let steps = (Change::Down, Change::Up);
-        let axes = self.dimension as usize;
-        let Ok(found) = spread(alloc, &self.cells, axes, steps, CUBES as usize) else {
-            return Err(SetFault::NoMemory);
-        };
-        match found {
-            Some(cells) => Ok(CubeSet {
-                dimension: self.dimension,
-                cells,
-            }),
-            None => Err(SetFault::TooMany),
-        }
+        self.spread_within(alloc, (Change::Down, Change::Up), CUBES)
     }
 }

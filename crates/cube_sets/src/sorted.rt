@@ -11,7 +11,8 @@ use std::cmp::Ordering;
 pub fn sort_distinct<T: Ord + Drop>(values: &mut Vec<T>)
     ensures sorted { IsStrictlySortedBy T.cmp values.new.items }
     ensures members { (x : T) → has T.cmp values.new.items x ≡ has T.cmp values.old.items x }
-    ensures kept { (p : T → Bool) → list_all p values.old.items ≡ true → list_all p values.new.items ≡ true }
+    ensures kept { (p : T → Bool)
+        → list_all p values.old.items ≡ true → list_all p values.new.items ≡ true }
     ensures bound { vec_len values.new ≤ vec_len values.old }
 {
     values.sort_unstable();
@@ -49,7 +50,8 @@ pub(crate) fn union<T: Ord + Copy>(
 ) -> Result<Option<Vec<T>>, AllocError>
     requires left { IsStrictlySortedBy T.cmp left.now }
     requires right { IsStrictlySortedBy T.cmp right.now }
-    ensures all { IfOk result (λ all. IfSome all (λ all. (all.items ≡ union_of T.cmp left.now right.now) × (vec_len all ≤ limit))) }
+    ensures all { IfOk result (λ all. IfSome all (λ all.
+        (all.items ≡ union_of T.cmp left.now right.now) × (vec_len all ≤ limit))) }
     ensures more { IfOk result (λ all. IfNone all (limit < length (union_of T.cmp left.now right.now))) }
 {
     let mut all = Vec::with_capacity(alloc, limit.min(left.len().saturating_add(right.len())))?;

@@ -1,5 +1,5 @@
-//! Sorted lists of cells spread along the axes: beside each cell those to which its intervals are changed. A change keeps the
-//! order of the cells that it changes, so that no list is sorted again.
+//! Sorted lists of cells spread along the axes: beside each cell those to which its intervals are
+//! changed. A change keeps the order of the cells that it changes, so that no list is sorted again.
 ghost use Rattle.std.specs.Prelude.{◌≡◌, ◌<◌, ◌≤◌, ◌++◌, length, vec_len, IsTrue, IfOk, OnOk, IfSome, IfNone};
 ghost use Rattle.std.specs.List.{list_all};
 ghost use Rattle.std.specs.List.Sorted.{IsStrictlySortedBy};
@@ -7,7 +7,7 @@ ghost use Rattle.elem_cubes.specs.Cells.{is_wide, is_file_factor};
 ghost use Rattle.elem_cubes.specs.Order.{cell_cmp};
 ghost use Rattle.elem_cubes.specs.Walks.{factor_at};
 ghost use Rattle.cube_sets.specs.Sorted.{union_of};
-ghost use Rattle.cube_sets.specs.Changes.{changed_one, changed, spread_once, spread};
+ghost use Rattle.cube_sets.specs.Changes.{changed_one, changed, changed_both, spread_once, spread};
 
 use crate::change::{Change, changed_cell};
 use crate::sorted::union;
@@ -56,8 +56,8 @@ fn all_changed(
     Ok(all)
 }
 
-// The cells that have an interval along the axis, each with that interval changed in either way; nothing where they are more
-// than so many.
+// The cells that have an interval along the axis, each with that interval changed in either way;
+// nothing where they are more than so many.
 fn both_changed(
     alloc: Global,
     cells: &[Cell],
@@ -67,15 +67,18 @@ fn both_changed(
 ) -> Result<Option<Vec<Cell>>, AllocError>
     requires sorted { IsStrictlySortedBy cell_cmp cells.now }
     requires range { IsTrue (list_all (list_all is_file_factor) cells.now) }
-    ensures all { IfOk result (λ all. IfSome all (λ all. all.items ≡ union_of cell_cmp (changed changes.0 axis cells.now) (changed changes.1 axis cells.now))) }
-    ensures more { IfOk result (λ all. IfNone all (limit < length (union_of cell_cmp (changed changes.0 axis cells.now) (changed changes.1 axis cells.now)))) }
+    ensures all { IfOk result (λ all. IfSome all (λ all.
+        all.items ≡ changed_both changes.0 changes.1 axis cells.now)) }
+    ensures more { IfOk result (λ all. IfNone all
+        (limit < length (changed_both changes.0 changes.1 axis cells.now))) }
 {
     let first = all_changed(alloc, cells, axis, changes.0)?;
     let second = all_changed(alloc, cells, axis, changes.1)?;
     union(alloc, &first, &second, limit)
 }
 
-// The cells and those to which they are changed along one axis; nothing where they are more than so many.
+// The cells and those to which they are changed along one axis; nothing where they are more than so
+// many.
 fn spread_once(
     alloc: Global,
     cells: &[Cell],
@@ -85,8 +88,10 @@ fn spread_once(
 ) -> Result<Option<Vec<Cell>>, AllocError>
     requires sorted { IsStrictlySortedBy cell_cmp cells.now }
     requires range { IsTrue (list_all (list_all is_file_factor) cells.now) }
-    ensures all { IfOk result (λ all. IfSome all (λ all. (all.items ≡ spread_once changes.0 changes.1 axis cells.now) × (vec_len all ≤ limit))) }
-    ensures more { IfOk result (λ all. IfNone all (limit < length (spread_once changes.0 changes.1 axis cells.now))) }
+    ensures all { IfOk result (λ all. IfSome all (λ all.
+        (all.items ≡ spread_once changes.0 changes.1 axis cells.now) × (vec_len all ≤ limit))) }
+    ensures more { IfOk result (λ all. IfNone all
+        (limit < length (spread_once changes.0 changes.1 axis cells.now))) }
 {
     match both_changed(alloc, cells, axis, changes, limit)? {
         Some(changed) => union(alloc, cells, &changed, limit),
@@ -94,8 +99,8 @@ fn spread_once(
     }
 }
 
-/// The cells and those to which they are changed along so many axes, one after the other; nothing where they are more than so
-/// many. All of them lie in the range of the files.
+/// The cells and those to which they are changed along so many axes, one after the other; nothing
+/// where they are more than so many. All of them lie in the range of the files.
 pub(crate) fn spread(
     alloc: Global,
     cells: &[Cell],
@@ -104,9 +109,12 @@ pub(crate) fn spread(
     limit: usize,
 ) -> Result<Option<Vec<Cell>>, AllocError>
     requires sorted { IsStrictlySortedBy cell_cmp cells.now }
-    requires range { IsTrue (list_all (list_all is_file_factor) (spread changes.0 changes.1 axes cells.now)) }
-    ensures all { IfOk result (λ all. IfSome all (λ all. (all.items ≡ spread changes.0 changes.1 axes cells.now) × (vec_len all ≤ limit))) }
-    ensures more { IfOk result (λ all. IfNone all (limit < length (spread changes.0 changes.1 axes cells.now))) }
+    requires range { IsTrue (list_all (list_all is_file_factor)
+        (spread changes.0 changes.1 axes cells.now)) }
+    ensures all { IfOk result (λ all. IfSome all (λ all.
+        (all.items ≡ spread changes.0 changes.1 axes cells.now) × (vec_len all ≤ limit))) }
+    ensures more { IfOk result (λ all. IfNone all
+        (limit < length (spread changes.0 changes.1 axes cells.now))) }
 {
     if limit < cells.len() {
         return Ok(None);

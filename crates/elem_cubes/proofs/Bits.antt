@@ -8,11 +8,7 @@ use Rattle.std.proofs.lemmas.Nat.{ones_cat, zero_from_ones, ones_le_self, and_le
 use Rattle.std.proofs.lemmas.Nat.Bits.{bit_at_lowest, bit_at-suc, bit_at_clear_same, bit_at_clear_other, bit_at_set_same, bit_at_set_other}
 use Rattle.std.proofs.lemmas.Bool.{cases_eq}
 use Rattle.std.proofs.lemmas.Bool.Decides.{nat_tests}
-use Rattle.elem_cubes.specs.Cells.{Factor, point, interval, is_wide, lower_of, axes_of, cell_of, dimension_of}
-
--- the factor with this lower end
-abbrev pub factor_of : Bool → ℤ → Factor
-factor_of wide l = cond wide (interval l) (point l)
+use Rattle.elem_cubes.specs.Cells.{Factor, point, interval, factor_of, is_wide, lower_of, axes_of, cell_of, dimension_of}
 
 pub wide-factor_of : (b : Bool) (l : ℤ) → is_wide (factor_of b l) ≡ b
 wide-factor_of true l = refl

@@ -65,6 +65,9 @@ module _ (ends : List ℤ) (len axes : ℕ) (q : List Factor) (k : KeepsCell end
   pub axes_kept : axes ≡ axes_of q
   axes_kept = sym (axes-cell_of (take len ends) axes axes_small) ∙ ap axes_of e
 
+  pub axes_few : axes < 2 ^ length q
+  axes_few = rw (sym len_kept) k.few
+
   pub parts_kept : q ≡ cell_of (lower_of q) axes
   parts_kept = sym e ∙ ap (λ ls. cell_of ls axes) lower_kept
 

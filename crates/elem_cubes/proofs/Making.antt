@@ -5,19 +5,18 @@ use Rattle.std.specs.List.{list_all}
 use Rattle.std.proofs.Math.Nat.{pow-suc}
 use Rattle.std.proofs.Math.Seq.{drop-cons}
 use Rattle.std.proofs.lemmas.Nat.{shr_split, mod_below, pow_pos}
-use Rattle.std.proofs.lemmas.List.{take_at, length-map}
+use Rattle.std.proofs.lemmas.List.{take_at, length-map, drop_more}
 use Rattle.std.proofs.lemmas.Bool.{lt-ltb}
 use Rattle.std.proofs.lemmas.Grind.{take-set_at}
 use Rattle.std.proofs.lemmas.Int.{ints}
 use Rattle.elem_cubes.specs.declared.range.TheConstants.{LOW, HIGH, MAX_EMBEDDING}
 use Rattle.elem_cubes.specs.declared.packed.TheConstants.{PADDING}
 use Rattle.elem_cubes.specs.Corners.{is_end, is_corner}
-use Rattle.elem_cubes.specs.Cells.{Factor, low, high, is_factor, is_cell, upper_of, cell_of, full_cell}
+use Rattle.elem_cubes.specs.Cells.{Factor, factor_of, low, high, is_factor, is_cell, upper_of, cell_of, full_cell}
 use Rattle.elem_cubes.specs.Faces.{is_part, is_face}
 use Rattle.elem_cubes.specs.Packed.{padded, KeepsCorner, KeepsCell}
 use Rattle.elem_cubes.specs.KeepingLemmas.{length-cell_of}
 use Rattle.elem_cubes.proofs.Conjunctions.{both, left, right}
-use Rattle.elem_cubes.proofs.Bits.{factor_of}
 use Rattle.elem_cubes.proofs.Keeping.{has_length, all_factors, cell_of_corner}
 
 -- ---- new cells
@@ -55,6 +54,11 @@ new_seen ends len axes lower k e f h =
 
 pub makes : {A : Type 0} (lower : List ℤ) (axes : ℕ) (x y : A) → makes_cell lower axes ≡ true → x ≡ cond (makes_cell lower axes) x y
 makes lower axes x y e = chosen (makes_cell lower axes) x y e
+
+-- a test of the factors from an axis on
+pub test_step : (p : Factor → Bool) (ls : List ℤ) (a i : ℕ) → i < length ls
+    → list_all p (cell_of (drop i ls) a) ≡ (p (factor_of (eqb (a % 2) 1) (get_or ls i (pos 0))) && list_all p (cell_of (drop (i + 1) ls) (a / 2)))
+test_step p ls a i h = ap (λ xs. list_all p (cell_of xs a)) (drop_more ls i (pos 0) h)
 
 -- ---- full cubes
 

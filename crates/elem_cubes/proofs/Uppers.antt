@@ -11,9 +11,8 @@ use Rattle.std.proofs.Math.Nat.{pow-suc}
 use Rattle.std.proofs.lemmas.Nat.Bits.{bit_at_lowest, bit_at-suc, bit_at-zero, bit_at_xor, bit_at-trailing_zeros, bit_at-lt, same_from_bits}
 use Rattle.std.proofs.lemmas.Int.{ints}
 use Rattle.elem_cubes.specs.Corners.{corner_cmp}
-use Rattle.elem_cubes.specs.Cells.{high, upper_of, cell_of}
+use Rattle.elem_cubes.specs.Cells.{factor_of, high, upper_of, cell_of}
 use Rattle.elem_cubes.specs.Packed.{OrdersUppers}
-use Rattle.elem_cubes.proofs.Bits.{factor_of}
 
 above : (l : ℤ) → int_cmp (l +ℤ pos 1) l ≡ Greater
 above l = sym (int_cmp_is (l +ℤ pos 1) l Greater (omega (arith, ints)))

@@ -55,6 +55,21 @@ words_step n ends ws i w small long e f =
     ∙ ap (λ us. words_of us ++ rest) (sym t)
     ∙ ap (λ j. words_of (take j ends) ++ rest) (let k : 2 * i + 1 + 1 ≡ 2 * (i + 1) = omega arith in k)
 
+-- one more coordinate before the padding
+pub pad_step : (most : ℕ) (xs ends : List ℤ) (i : ℕ) (x : ℤ) → i < length xs → length xs ≤ most → ends ≡ take i xs ++ replicate (most - i) PADDING
+    → x ≡ get_or xs i (pos 0) → set ends i x ≡ take (i + 1) xs ++ replicate (most - (i + 1)) PADDING
+pad_step most xs ends i x small few e f =
+    let front = take i xs in
+    let rest : List ℤ = replicate (most - (i + 1)) PADDING in
+    let m : length front ≡ i = omega (arith, length-take i xs) in
+    let s : replicate (most - i) PADDING ≡ PADDING ∷ rest = let k : most - i ≡ suc (most - (i + 1)) = omega arith in ap (λ j. replicate j PADDING) k in
+    ap (λ us. set us i x) (e ∙ ap (λ us. front ++ us) s)
+    ∙ ap (λ j. set (front ++ PADDING ∷ rest) j x) (sym m)
+    ∙ set-append_seam front PADDING rest x
+    ∙ ap (λ v. front ++ v ∷ rest) f
+    ∙ sym (append_assoc front (get_or xs i (pos 0) ∷ []) rest)
+    ∙ ap (λ us. us ++ rest) (sym (take_more xs i (pos 0) small))
+
 -- ---- the order of the words
 
 -- a number of 32 bits with a sign

@@ -1,15 +1,19 @@
 -- Cells: elementary cubes, as the lists of their factors (Kaczynski, Mischaikow, Mrozek, Computational Homology, 2004,
 -- section 2.1).
-use Rattle.std.specs.Prelude.{ℕ, ◌+◌, ◌*◌, ◌%◌, ◌/◌, ℤ, pos, ◌+ℤ◌, List, [], ◌∷◌, length, map, Bool, true, false, ◌&&◌, ◌==◌, nat_le, if◌then◌else◌}
+use Rattle.std.specs.Prelude.{ℕ, ◌+◌, ◌*◌, ◌^◌, ◌%◌, ◌/◌, ℤ, pos, ◌+ℤ◌, List, [], ◌∷◌, length, map, Bool, true, false, ◌&&◌, ◌==◌, nat_le, nat_lt, int_le, if◌then◌else◌, Option, None, Some}
 use Rattle.std.specs.List.{list_all}
 use Rattle.std.specs.Ordering.{int_eq}
-use Rattle.elem_cubes.specs.declared.range.TheConstants.{MAX_EMBEDDING}
+use Rattle.elem_cubes.specs.Range.{most_factors}
 use Rattle.elem_cubes.specs.Corners.{is_end, is_file_end}
 
 -- an elementary interval: the point l, or the unit interval from l to l + 1
 pub data Factor : Type 0 where
   point : ℤ → Factor
   interval : ℤ → Factor
+
+-- the factor that begins there
+abbrev pub factor_of : Bool → ℤ → Factor
+factor_of wide l = if wide then interval l else point l
 
 -- the ends of a factor
 abbrev pub low : Factor → ℤ
@@ -37,9 +41,16 @@ is_factor f = is_end (low f) && is_end (high f)
 abbrev pub is_file_factor : Factor → Bool
 is_file_factor f = is_file_end (low f) && is_file_end (high f)
 
+-- both ends lie between two numbers
+abbrev pub is_between : ℤ → ℤ → ℤ → Bool
+is_between least greatest z = int_le least z && int_le z greatest
+
+abbrev pub is_within : ℤ → ℤ → Factor → Bool
+is_within least greatest f = is_between least greatest (low f) && is_between least greatest (high f)
+
 -- what a cell of the program is: a product of some factors, not too many, each in range
 abbrev pub is_cell : List Factor → Bool
-is_cell q = nat_le 1 (length q) && nat_le (length q) MAX_EMBEDDING && list_all is_factor q
+is_cell q = nat_le 1 (length q) && nat_le (length q) most_factors && list_all is_factor q
 
 -- the lower and the upper corner
 abbrev pub lower_of : List Factor → List ℤ
@@ -62,6 +73,13 @@ cell_of (l ∷ ls) axes = (if axes % 2 == 1 then interval l else point l) ∷ ce
 -- the full cube with this lower corner
 abbrev pub full_cell : List ℤ → List Factor
 full_cell = map interval
+
+-- the factors as a cell of the program, where they are one; those of a corner and axes, where these are axes of it
+abbrev pub checked : List Factor → Option (List Factor)
+checked q = if is_cell q then Some q else None
+
+abbrev pub checked_of : List ℤ → ℕ → Option (List Factor)
+checked_of ls axes = if nat_lt axes (2 ^ length ls) && is_cell (cell_of ls axes) then Some (cell_of ls axes) else None
 
 -- the number of intervals
 abbrev pub dimension_of : List Factor → ℕ

@@ -42,7 +42,11 @@ pub record KeepsCount {A : Type 0} (items : List A) (next count : ℕ) : Type 0 
   pub within : next ≤ count
   pub counted : count ≡ length items
 
+-- the part of a factor at a place among its parts
+abbrev pub part_at : Factor → ℕ → Factor
+part_at f digit = slice_index_or (parts_of f) digit f
+
 -- the face at a place of the closure: the remainders of the place choose a part of each factor
 abbrev pub face_at : List Factor → ℕ → List Factor
 face_at [] place = []
-face_at (f ∷ fs) place = slice_index_or (parts_of f) (place % length (parts_of f)) f ∷ face_at fs (place / length (parts_of f))
+face_at (f ∷ fs) place = part_at f (place % length (parts_of f)) ∷ face_at fs (place / length (parts_of f))

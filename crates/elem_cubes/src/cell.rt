@@ -4,7 +4,7 @@ ghost use Rattle.std.proofs.Common.{rules};
 ghost use Rattle.std.specs.List.{list_all};
 ghost use Rattle.std.specs.Cmp.Rules.{comparing};
 ghost use Rattle.std.specs.Ordering.{as_partial_cmp};
-ghost use Rattle.elem_cubes.specs.Cells.{point, interval, low, high, moved, is_wide, is_factor, is_file_factor, is_cell, lower_of, upper_of, axes_of, cell_of, full_cell, dimension_of, same_cell};
+ghost use Rattle.elem_cubes.specs.Cells.{point, interval, factor_of, low, high, moved, is_wide, is_factor, is_within, is_file_factor, is_cell, lower_of, upper_of, axes_of, cell_of, full_cell, checked, checked_of, dimension_of, same_cell};
 ghost use Rattle.elem_cubes.specs.Faces.{IsFace, faces_of, cofaces_of, closure_of, is_part, is_face};
 ghost use Rattle.elem_cubes.specs.Order.{cell_cmp};
 ghost use Rattle.elem_cubes.specs.Walks.{factor_at};
@@ -14,14 +14,15 @@ use crate::closure::Closure;
 use crate::cofaces::Cofaces;
 use crate::corner::Corner;
 use crate::faces::Faces;
-use crate::packed::{is_end, words};
+use crate::packed::words;
 use crate::range::{HIGH, LOW, MAX_EMBEDDING};
 use std::cmp::Ordering;
 use std::hash::{Hash, Hasher};
 use std::marker::Model;
 
-/// An elementary cube, seen as the list of its factors: from one to `MAX_EMBEDDING` points and unit intervals, whose
-/// ends lie from `LOW - 1` to `HIGH + 1`. It is kept as its lower corner and its axes.
+/// An elementary cube, seen as the list of its factors: from one to `MAX_EMBEDDING` points and unit
+/// intervals, whose ends lie from `LOW - 1` to `HIGH + 1`. It is kept as its lower corner and its
+/// axes.
 #[derive(Clone, Copy, Debug)]
 pub struct Cell {
     ends: [i32; MAX_EMBEDDING],
@@ -41,20 +42,29 @@ impl Model for Cell {
 
     ghost invariant = { λ c. KeepsCell c.ends c.len c.axes };
 
-    ghost inverse = { λ q. record { ends = padded MAX_EMBEDDING (lower_of q); len = length q; axes = axes_of q } };
+    ghost inverse = { λ q. record {
+      ends = padded MAX_EMBEDDING (lower_of q);
+      len = length q;
+      axes = axes_of q;
+    } };
 
     ghost use Rattle.elem_cubes.specs.KeepingLemmas.{unpacked};
 
-    ghost inverse_ok = { λ a h. λ i. record { ends = (unpacked a.ends a.len a.axes h).0 i; len = (unpacked a.ends a.len a.axes h).1 i; axes = (unpacked a.ends a.len a.axes h).2 i } };
+    ghost inverse_ok = { λ a h. λ i. record {
+      ends = (unpacked a.ends a.len a.axes h).0 i;
+      len = (unpacked a.ends a.len a.axes h).1 i;
+      axes = (unpacked a.ends a.len a.axes h).2 i;
+    } };
 }
 
 impl Cell {
-    /// The cell with this lower corner that is an interval along the axes of these bits, the first axis in the lowest.
-    /// `None` where a bit at or past the corner's length is set, or an interval begins at `HIGH + 1`.
+    /// The cell with this lower corner that is an interval along the axes of these bits, the first
+    /// axis in the lowest. `None` where a bit at or past the corner's length is set, or an interval
+    /// begins at `HIGH + 1`.
     pub fn new(lower: Corner, axes: u8) -> Option<Cell>
-        ensures { result ≡ (if nat_lt axes (2 ^ length lower) && is_cell (cell_of lower axes) then Some (cell_of lower axes) else None) }
+        ensures { result ≡ checked_of lower axes }
     {
-        if axes >> lower.len != 0 || !are_factors(lower.coordinates(), axes) {
+        if axes >> lower.len != 0 || !are_within(lower.coordinates(), axes, LOW - 1, HIGH + 1) {
             return None;
         }
         Some(Cell {
@@ -66,7 +76,7 @@ impl Cell {
 
     /// The full cube with this lower corner. `None` where a coordinate is `HIGH + 1`.
     pub fn full(lower: &Corner) -> Option<Cell>
-        ensures { result ≡ (if is_cell (full_cell lower.now) then Some (full_cell lower.now) else None) }
+        ensures { result ≡ checked (full_cell lower.now) }
     {
         Cell::new(*lower, all_axes(lower.len))
     }
@@ -130,7 +140,7 @@ impl Cell {
     pub fn in_range(&self) -> bool
         ensures { result ≡ list_all is_file_factor self.now }
     {
-        are_in_range(self.low_ends(), self.axes)
+        are_within(self.low_ends(), self.axes, LOW, HIGH)
     }
 
     /// Whether the other cell is a face of this one.
@@ -140,15 +150,16 @@ impl Cell {
         self.len == other.len && are_parts(self.low_ends(), self.axes, other.low_ends(), other.axes)
     }
 
-    /// The faces of one dimension less, with their signs in the boundary: axes ascending, the upper end before the lower.
+    /// The faces of one dimension less, with their signs in the boundary: axes ascending, the upper
+    /// end before the lower.
     pub fn faces(&self) -> Faces
         ensures { result ≡ faces_of self.now }
     {
         Faces::of(*self)
     }
 
-    /// The cells of one dimension more that have this one as a face, with this cell's sign in their boundary: axes
-    /// ascending, upward (at the own corner) before downward.
+    /// The cells of one dimension more that have this one as a face, with this cell's sign in their
+    /// boundary: axes ascending, upward (at the own corner) before downward.
     pub fn cofaces(&self) -> Cofaces
         requires { IsTrue (list_all is_file_factor self.now) }
         ensures { result ≡ cofaces_of self.now }
@@ -232,7 +243,7 @@ impl Cell {
     pub(crate) fn downward(&self, i: usize) -> Cell
         requires axis { i < length self.now }
         requires range { IsTrue (list_all is_file_factor self.now) }
-        ensures { result ≡ slice_set self.now i (interval (low (factor_at self.now i) +ℤ negsuc 0)) }
+        ensures { result ≡ slice_set self.now i (moved (negsuc 0) (interval (low (factor_at self.now i)))) }
     {
         self.with_interval(i, self.low(i) - 1)
     }
@@ -250,8 +261,8 @@ impl Cell {
     /// The cell with its factor on the axis `i` moved to this lower end.
     fn with_low(&self, i: usize, end: i32) -> Cell
         requires axis { i < length self.now }
-        requires fits { IsTrue (is_factor (if is_wide (factor_at self.now i) then interval end else point end)) }
-        ensures { result ≡ slice_set self.now i (if is_wide (factor_at self.now i) then interval end else point end) }
+        requires fits { IsTrue (is_factor (factor_of (is_wide (factor_at self.now i)) end)) }
+        ensures { result ≡ slice_set self.now i (factor_of (is_wide (factor_at self.now i)) end) }
     {
         if self.is_wide(i) {
             self.with_interval(i, end)
@@ -299,13 +310,13 @@ fn all_axes(len: u8) -> u8
     (1 << len) - 1
 }
 
-/// Whether these coordinates and axes give factors of cells.
-fn are_factors(ends: &[i32], axes: u8) -> bool
-    ensures { result ≡ list_all is_factor (cell_of ends.now axes) }
+/// Whether these coordinates and axes give factors with both ends between two numbers.
+fn are_within(ends: &[i32], axes: u8, least: i32, greatest: i32) -> bool
+    ensures { result ≡ list_all (is_within least greatest) (cell_of ends.now axes) }
 {
     let mut rest = axes;
     for end in ends {
-        if !is_factor(*end, rest % 2 == 1) {
+        if !is_within(*end, rest % 2 == 1, least, greatest) {
             return false;
         }
         rest /= 2;
@@ -313,30 +324,10 @@ fn are_factors(ends: &[i32], axes: u8) -> bool
     true
 }
 
-fn is_factor(end: i32, wide: bool) -> bool
-    ensures { result ≡ is_factor (if wide then interval end else point end) }
+fn is_within(end: i32, wide: bool, least: i32, greatest: i32) -> bool
+    ensures { result ≡ is_within least greatest (factor_of wide end) }
 {
-    is_end(end) && (!wide || end <= HIGH)
-}
-
-/// Whether these coordinates and axes give factors of the range of the files.
-fn are_in_range(ends: &[i32], axes: u8) -> bool
-    ensures { result ≡ list_all is_file_factor (cell_of ends.now axes) }
-{
-    let mut rest = axes;
-    for end in ends {
-        if !is_file_factor(*end, rest % 2 == 1) {
-            return false;
-        }
-        rest /= 2;
-    }
-    true
-}
-
-fn is_file_factor(end: i32, wide: bool) -> bool
-    ensures { result ≡ is_file_factor (if wide then interval end else point end) }
-{
-    LOW <= end && end <= HIGH && (!wide || end < HIGH)
+    least <= end && end <= greatest && (!wide || end < greatest)
 }
 
 /// The upper ends of the factors of these coordinates and axes.
@@ -371,7 +362,7 @@ fn are_parts(ends: &[i32], axes: u8, other_ends: &[i32], other_axes: u8) -> bool
 }
 
 fn is_part(end: i32, wide: bool, other_end: i32, other_wide: bool) -> bool
-    ensures { result ≡ is_part (if wide then interval end else point end) (if other_wide then interval other_end else point other_end) }
+    ensures { result ≡ is_part (factor_of wide end) (factor_of other_wide other_end) }
 {
     if other_wide {
         wide && end == other_end
@@ -441,8 +432,8 @@ impl Hash for Cell {
     }
 }
 
-/// The order of the upper corners of two cells with one lower corner: where their axes differ first, the cell without
-/// the axis is less.
+/// The order of the upper corners of two cells with one lower corner: where their axes differ
+/// first, the cell without the axis is less.
 fn compare_axes(axes: u8, other: u8) -> Ordering
     ensures { OrdersUppers axes other result }
 {

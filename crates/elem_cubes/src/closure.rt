@@ -2,7 +2,7 @@
 ghost use Rattle.std.specs.Prelude.{◌≡◌, ◌<◌, ◌%◌, ◌/◌, length, slice_set, slice_index_or, if◌then◌else◌};
 ghost use Rattle.std.specs.Iterator.{YieldsFirst, item_count};
 ghost use Rattle.elem_cubes.specs.Faces.{closure_of, parts_of};
-ghost use Rattle.elem_cubes.specs.Walks.{factor_at, face_at};
+ghost use Rattle.elem_cubes.specs.Walks.{factor_at, part_at, face_at};
 
 use crate::cell::Cell;
 use std::marker::Model;
@@ -87,7 +87,7 @@ fn split(rest: u32, wide: bool) -> (u32, u32)
 fn with_part(cell: &Cell, i: usize, digit: u32) -> Cell
     requires axis { i < length cell.now }
     requires part { digit < length (parts_of (factor_at cell.now i)) }
-    ensures { result ≡ slice_set cell.now i (slice_index_or (parts_of (factor_at cell.now i)) digit (factor_at cell.now i)) }
+    ensures { result ≡ slice_set cell.now i (part_at (factor_at cell.now i) digit) }
 {
     match digit {
         0 => cell.lower_end(i),

@@ -9,7 +9,8 @@ use crate::cell::Cell;
 use crate::faces::{next_axis, sign_of};
 use std::marker::Model;
 
-/// The cells of one dimension more that have a cell as a face and are left to come, with its signs in their boundaries.
+/// The cells of one dimension more that have a cell as a face and are left to come, with its signs
+/// in their boundaries.
 #[derive(Drop)]
 pub struct Cofaces {
     cell: Cell,
@@ -29,7 +30,8 @@ impl Model for Cofaces {
 
     ghost view = { λ s. left intervals_at s.cell s.axis s.second };
 
-    ghost invariant = { λ s. KeepsWalk false s.cell s.axis s.second s.negative × IsTrue (list_all is_file_factor s.cell) };
+    ghost invariant = { λ s. KeepsWalk false s.cell s.axis s.second s.negative
+        × IsTrue (list_all is_file_factor s.cell) };
 }
 
 impl Cofaces {

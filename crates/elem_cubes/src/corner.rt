@@ -14,8 +14,8 @@ use std::cmp::Ordering;
 use std::hash::{Hash, Hasher};
 use std::marker::Model;
 
-/// A point of the lattice, seen as the list of its coordinates: from one to `MAX_EMBEDDING` numbers, each from
-/// `LOW - 1` to `HIGH + 1`.
+/// A point of the lattice, seen as the list of its coordinates: from one to `MAX_EMBEDDING`
+/// numbers, each from `LOW - 1` to `HIGH + 1`.
 #[derive(Clone, Copy, Debug)]
 pub struct Corner {
     pub(crate) ends: [i32; MAX_EMBEDDING],
@@ -41,8 +41,8 @@ impl Model for Corner {
 }
 
 impl Corner {
-    /// The corner with these coordinates. `None` where there are none or more than `MAX_EMBEDDING`, or one is out of the
-    /// range of corners.
+    /// The corner with these coordinates. `None` where there are none or more than `MAX_EMBEDDING`,
+    /// or one is out of the range of corners.
     pub fn of(xs: &[i32]) -> Option<Corner>
         ensures { result ≡ (if is_corner xs.now then Some xs.now else None) }
     {

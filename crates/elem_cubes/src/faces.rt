@@ -76,8 +76,8 @@ pub(crate) fn sign_of(negative: bool) -> i8
     if negative { -1 } else { 1 }
 }
 
-/// The first axis from here on along which the cell is an interval, or a point, or else the number of axes; and whether
-/// the signs behind the factors before it are turned.
+/// The first axis from here on along which the cell is an interval, or a point, or else the number
+/// of axes; and whether the signs behind the factors before it are turned.
 pub(crate) fn next_axis(cell: &Cell, from: usize, negative: bool, wide: bool) -> (usize, bool)
     requires place { from ≤ length cell.now }
     requires signed { negative ≡ is_turned (take from cell.now) }

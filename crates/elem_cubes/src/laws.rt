@@ -1,5 +1,12 @@
-//! Laws of cells, their faces and their boundary: each is the contract of a function that does nothing.
+//! Laws of cells, their faces and their boundary: each is the contract of a function that does
+//! nothing.
+ghost use Rattle.elem_cubes.specs.Range.{RangeIsOfTheFormats};
 ghost use Rattle.elem_cubes.specs.Laws.{CellsHaveParts, FacesAreTransitive, FacesStayInRange, FacesAreFacets, CofacesAreAll, BoundaryIsOverCofaces, ClosuresAreFaces, FacetsAreUnits, BoundaryOfBoundaryIsZero, BoundaryAtIsBoundary, OrderIsTotal, ChangesKeepOrder};
+
+/// The numbers of the program are those that the formats state.
+pub fn range_is_of_the_formats()
+    ensures { RangeIsOfTheFormats }
+{}
 
 pub fn cells_have_parts()
     ensures { CellsHaveParts }

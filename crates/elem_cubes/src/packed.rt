@@ -6,13 +6,14 @@ ghost use Rattle.elem_cubes.specs.Packed.{padded, word, words_of};
 
 use crate::range::{HIGH, LOW, MAX_EMBEDDING};
 
-/// What stands behind the coordinates: less than each of them, so that the order is that of the lists.
+/// What stands behind the coordinates: less than each of them, so that the order is that of the
+/// lists.
 pub(crate) const PADDING: i32 = i32::MIN;
 
 /// How many words the coordinates fill, two to a word.
 pub(crate) const WORDS: usize = MAX_EMBEDDING / 2;
 
-pub(crate) fn is_end(x: i32) -> bool
+fn is_end(x: i32) -> bool
     ensures { result ≡ is_end x }
 {
     LOW - 1 <= x && x <= HIGH + 1

@@ -1,5 +1,6 @@
--- Numbers modulo p: equality, being no multiple of p, negatives, and what makes p the modulus of a field.
--- Numbers are not reduced: a sum or a product modulo p is the plain one, and p enters where two of them are compared.
+-- Numbers modulo p: equality, being no multiple of p, negatives, and what makes p the modulus of a
+-- field. Numbers are not reduced: a sum or a product modulo p is the plain one, and p enters where
+-- two of them are compared.
 use Rattle.std.specs.Prelude.{◌≡◌, ℕ, ◌*◌, ◌-◌, ◌%◌, ◌≤◌}
 
 -- a and b are the same number modulo p

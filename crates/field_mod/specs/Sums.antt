@@ -8,8 +8,10 @@ total (suc n) f = f 0 + total n (λ i. f (suc i))
 
 -- the sum of a combination is the combination of the sums
 abbrev pub SumsAreLinear : Type 0
-SumsAreLinear = (n a b : ℕ) (f g : ℕ → ℕ) → total n (λ i. a * f i + b * g i) ≡ a * total n f + b * total n g
+SumsAreLinear = (n a b : ℕ) (f g : ℕ → ℕ)
+    → total n (λ i. a * f i + b * g i) ≡ a * total n f + b * total n g
 
 -- a double sum may be taken in either order
 abbrev pub SumsChangeOrder : Type 0
-SumsChangeOrder = (n m : ℕ) (f : ℕ → ℕ → ℕ) → total n (λ i. total m (λ j. f i j)) ≡ total m (λ j. total n (λ i. f i j))
+SumsChangeOrder = (n m : ℕ) (f : ℕ → ℕ → ℕ) → total n (λ i. total m (λ j. f i j))
+    ≡ total m (λ j. total n (λ i. f i j))

@@ -5,8 +5,9 @@ ghost use Rattle.field_mod.specs.Moduli.{IsModulus};
 
 use crate::moduli::MODULI;
 
-/// The field of `P` elements, which are the numbers 0 to `P - 1`. A value of this type says that `P` is in the table
-/// of moduli, and so that each number from 1 to `P - 1` has an inverse. No call takes memory.
+/// The field of `P` elements, which are the numbers 0 to `P - 1`. A value of this type says that
+/// `P` is in the table of moduli, and so that each number from 1 to `P - 1` has an inverse. No call
+/// takes memory.
 #[derive(Clone, Copy)]
 pub struct Field<const P: u16> {
     seal: (),

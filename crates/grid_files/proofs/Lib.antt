@@ -1,6 +1,7 @@
 pub mod Reading
 pub mod Deciding
 pub mod Outcomes
+pub mod Refusals
 pub mod Scanning
 pub mod Corners
 pub mod Openings
@@ -9,7 +10,6 @@ pub mod Gathering
 pub mod Readings
 pub mod Finishing
 pub mod SetFiles
-pub mod Writing
 pub mod Few
 pub mod Telling
 pub mod Rereading

@@ -19,7 +19,8 @@ use Rattle.grid_files.specs.Items.{Item, full, elementary, dimension_line, close
 use Rattle.grid_files.specs.Laws.{WrittenSetsAreRead}
 use Rattle.grid_files.specs.Pieces.{pieces_behind, pieces}
 use Rattle.grid_files.specs.SetFile.{Splits, Gathers, HasValue, no_members}
-use Rattle.grid_files.specs.Written.{corner_text, cell_line, written}
+use Rattle.corner_texts.specs.CornerText.{corner_text}
+use Rattle.grid_files.specs.Written.{cell_line, written}
 use Rattle.grid_files.specs.declared.fault.Kind.{Kind}
 use Rattle.grid_files.specs.declared.fault.TextCause.TheVariants.{DimensionTooLarge}
 use Rattle.cube_sets.specs.declared.fault.TheConstants.{CUBES}

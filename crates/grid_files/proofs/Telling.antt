@@ -16,7 +16,7 @@ use Rattle.grid_files.specs.declared.piece.TheConstants.{DIMENSION}
 use Rattle.grid_files.specs.Items.{closed}
 use Rattle.grid_files.specs.Pieces.{piece_of, is_dimension, pieces_behind, word_line, numbered, number_line, stray_of}
 use Rattle.grid_files.specs.SetFile.{said}
-use Rattle.grid_files.specs.Written.{spaced, corner_text}
+use Rattle.corner_texts.specs.CornerText.{spaced, corner_text}
 use Rattle.grid_files.proofs.Scanning.{while_more, while_end}
 use Rattle.cube_sets.proofs.Sorting.{and_true}
 

@@ -2,17 +2,16 @@
 use Rattle.std.specs.Prelude.{ℕ, ℤ, pos, negsuc, ◌+ℤ◌, List, [], ◌∷◌, ◌++◌, length, map, max, Bool, true, false, ◌==◌, ◌&&◌, ◌||◌, not, nat_lt, if◌then◌else◌, Option, None, Some}
 use Rattle.std.specs.List.{list_all}
 use Rattle.std.specs.Ordering.{int_eq}
-use Rattle.elem_cubes.specs.declared.range.TheConstants.{MAX_EMBEDDING}
+use Rattle.elem_cubes.specs.Range.{most_factors}
 use Rattle.elem_cubes.specs.Corners.{is_file_end}
 use Rattle.elem_cubes.specs.Cells.{Factor, point, interval, is_wide, full_cell}
 use Rattle.elem_cubes.specs.Order.{cell_cmp}
 use Rattle.cube_sets.specs.Sorted.{inserted}
-use Rattle.cube_sets.specs.Sets.{Members, dimensions_agree}
+use Rattle.cube_sets.specs.Sets.{Members, dimensions_agree, most_members}
 use Rattle.grid_files.specs.declared.fault.Kind.{Kind}
 use Rattle.grid_files.specs.declared.fault.Kind.TheVariants.{Any, Full}
 use Rattle.grid_files.specs.declared.fault.TextCause.{TextCause}
 use Rattle.grid_files.specs.declared.fault.TextCause.TheVariants.{BadByte, BadNumber, MixedDimension, DimensionTooLarge, CoordinateTooLarge, NotElementary, NotFull, TooMany}
-use Rattle.cube_sets.specs.declared.fault.TheConstants.{CUBES}
 use Rattle.grid_files.specs.declared.piece.Piece.{Piece}
 use Rattle.grid_files.specs.declared.piece.Piece.TheVariants.{Number, Wide, Mark, SkippedLine, DimensionWord, DimensionNumber}
 
@@ -139,18 +138,18 @@ abbrev pub cell_cause : Kind → Members → List Factor → Option TextCause
 cell_cause kind set q =
     if not (dimensions_agree set.dimension (length q)) then Some MixedDimension
     else if not (is_wanted kind q) then Some NotFull
-    else if nat_lt CUBES (length (inserted cell_cmp q set.cells)) then Some TooMany else None
+    else if nat_lt most_members (length (inserted cell_cmp q set.cells)) then Some TooMany else None
 
 -- Why a cube of corners of at most so many numbers is refused, where these are the corners of this cell, or of none.
 abbrev pub cube_cause : Kind → Members → ℕ → Option (List Factor) → Option TextCause
-cube_cause kind set numbers None = if nat_lt MAX_EMBEDDING numbers then Some DimensionTooLarge else Some NotElementary
-cube_cause kind set numbers (Some q) = if nat_lt MAX_EMBEDDING numbers then Some DimensionTooLarge else cell_cause kind set q
+cube_cause kind set numbers None = if nat_lt most_factors numbers then Some DimensionTooLarge else Some NotElementary
+cube_cause kind set numbers (Some q) = if nat_lt most_factors numbers then Some DimensionTooLarge else cell_cause kind set q
 
 -- Why the number of a dimension line is refused.
 abbrev pub dimension_cause : Members → ℤ → Option TextCause
 dimension_cause set (negsuc n) = Some BadNumber
 dimension_cause set (pos n) =
-    if n == 0 then Some BadNumber else if nat_lt MAX_EMBEDDING n then Some DimensionTooLarge
+    if n == 0 then Some BadNumber else if nat_lt most_factors n then Some DimensionTooLarge
     else if dimensions_agree set.dimension n then None else Some MixedDimension
 
 -- Why an item is refused behind items that made this set, if it is.

@@ -2,12 +2,13 @@
 use Rattle.std.specs.Prelude.{◌≡◌, ◌⊎◌, ◌≤◌, ℕ, List, length, true}
 use Rattle.std.specs.List.{list_all}
 use Rattle.grid_files.specs.Items.{is_wanted}
-use Rattle.cube_sets.specs.Sets.{Members, IsCubeSet}
+use Rattle.cube_sets.specs.Sets.{Members, IsCubeSet, most_members}
 use Rattle.grid_files.specs.SetFile.{HasValue, IsRefusedAt}
 use Rattle.grid_files.specs.Written.{written}
 use Rattle.grid_files.specs.declared.fault.Kind.{Kind}
 use Rattle.grid_files.specs.declared.fault.TextCause.{TextCause}
-use Rattle.cube_sets.specs.declared.fault.TheConstants.{CUBES}
+use Rattle.grid_files.specs.Pieces.{keyword}
+use Rattle.grid_files.specs.declared.piece.TheConstants.{DIMENSION}
 
 -- a text has exactly one value, or is refused at exactly one place with one cause
 pub record TextsHaveOneOutcome : Type 0 where
@@ -20,4 +21,8 @@ pub record TextsHaveOneOutcome : Type 0 where
 
 -- the written form of a set that is not too large has the set as its value, under each kind that wants its cells
 abbrev pub WrittenSetsAreRead : Type 0
-WrittenSetsAreRead = (kind : Kind) (set : Members) → IsCubeSet set → length set.cells ≤ CUBES → list_all (is_wanted kind) set.cells ≡ true → HasValue kind (written set) set
+WrittenSetsAreRead = (kind : Kind) (set : Members) → IsCubeSet set → length set.cells ≤ most_members → list_all (is_wanted kind) set.cells ≡ true → HasValue kind (written set) set
+
+-- the keyword of the program is the word of the grammar
+abbrev pub KeywordIsOfTheFormat : Type 0
+KeywordIsOfTheFormat = DIMENSION ≡ keyword

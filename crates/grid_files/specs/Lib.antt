@@ -1,3 +1,4 @@
+pub use Rattle.corner_texts.specs.CornerText
 pub use Rattle.cube_sets.specs.Sorted
 pub use Rattle.cube_sets.specs.Sets
 pub use Rattle.cube_sets.specs.Closures
@@ -5,6 +6,7 @@ pub use Rattle.cube_sets.specs.Neighbours
 pub mod Pieces
 pub mod Items
 pub mod SetFile
+pub mod Refusals
 pub mod Laws
 pub mod Scanning
 pub mod Reading

@@ -5,7 +5,6 @@ use Rattle.std.specs.Char.{is_ascii_alphabetic}
 use Rattle.outside.specs.Tokens.{Lexeme, number, wide, arrow, word, mark, other, is_blank, letters_of, line_of, lexeme_at, size_behind, tokens_behind}
 use Rattle.grid_files.specs.declared.piece.Piece.{Piece}
 use Rattle.grid_files.specs.declared.piece.Piece.TheVariants.{Number, Wide, Mark, Arrow, Strange, SkippedLine, DimensionWord, DimensionNumber, NoNumber, Stray}
-use Rattle.grid_files.specs.declared.piece.TheConstants.{DIMENSION}
 
 -- A token as a piece.
 abbrev pub piece_of : Lexeme → Piece
@@ -16,9 +15,13 @@ piece_of arrow = Arrow
 piece_of (word w) = Strange
 piece_of (other b) = Strange
 
--- The letters are those of the word `dimension`.
+-- The keyword of set files, `dimension`: it begins a dimension line.
+abbrev pub keyword : List ℕ
+keyword = 100 ∷ 105 ∷ 109 ∷ 101 ∷ 110 ∷ 115 ∷ 105 ∷ 111 ∷ 110 ∷ []
+
+-- The letters are those of that word.
 abbrev pub is_dimension : List ℕ → Bool
-is_dimension letters = pointwise nat_eq DIMENSION letters
+is_dimension letters = pointwise nat_eq keyword letters
 
 -- What stands on the line behind the number of a dimension line: nothing, or a stray token.
 abbrev pub stray_of : List (ℕ × Lexeme) → List (ℕ × Piece)

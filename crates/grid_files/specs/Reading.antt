@@ -51,14 +51,7 @@ judged (Some c) f r = f c
 
 -- the first byte of the item that is open behind a piece at a place
 abbrev pub start_of : Open → ℕ → ℕ → ℕ
-start_of nothing start place = place
-start_of (in_full xs) start place = start
-start_of before_lower start place = start
-start_of (in_lower ls) start place = start
-start_of (before_upper ls) start place = start
-start_of (in_upper ls us) start place = start
-start_of (before_end ls us) start place = start
-start_of behind_word start place = start
+start_of o start place = if is_open o then start else place
 
 -- the place of an item's fault, by its first byte and the place of its last piece
 abbrev pub closing_place : Item → ℕ → ℕ → ℕ

@@ -1,22 +1,11 @@
 -- The written form of a set: a dimension line, and one member a line, in order.
-use Rattle.std.specs.Prelude.{ℕ, ℤ, pos, List, [], ◌∷◌, ◌++◌, drop, Bool, true, false, ◌==◌, if◌then◌else◌}
+use Rattle.std.specs.Prelude.{ℕ, pos, List, [], ◌∷◌, ◌++◌, ◌==◌, if◌then◌else◌}
 use Rattle.std.specs.List.{flat_map, list_all}
 use Rattle.outside.specs.Decimal.{decimal}
 use Rattle.elem_cubes.specs.Cells.{Factor, is_wide, lower_of, upper_of}
+use Rattle.corner_texts.specs.CornerText.{corner_text}
 use Rattle.cube_sets.specs.Sets.{Members}
-use Rattle.grid_files.specs.declared.piece.TheConstants.{DIMENSION}
-
--- numbers, each behind a space
-abbrev pub spaced : List ℤ → List ℕ
-spaced zs = flat_map (λ z. 32 ∷ decimal z) zs
-
-abbrev pub next_text : Bool → ℤ → List ℕ
-next_text true z = decimal z
-next_text false z = 32 ∷ decimal z
-
--- numbers separated by one space, in brackets
-abbrev pub corner_text : List ℤ → List ℕ
-corner_text zs = 40 ∷ drop 1 (spaced zs) ++ 41 ∷ []
+use Rattle.grid_files.specs.Pieces.{keyword}
 
 -- a full cube by its lower corner, any other cell by both corners
 abbrev pub cell_text : List Factor → List ℕ
@@ -28,4 +17,4 @@ cell_line q = cell_text q ++ 10 ∷ []
 -- a set of unknown dimension is written as no bytes
 abbrev pub written : Members → List ℕ
 written set = if set.dimension == 0 then []
-    else DIMENSION ++ 32 ∷ decimal (pos set.dimension) ++ 10 ∷ [] ++ flat_map cell_line set.cells
+    else keyword ++ 32 ∷ decimal (pos set.dimension) ++ 10 ∷ [] ++ flat_map cell_line set.cells

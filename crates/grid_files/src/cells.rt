@@ -35,7 +35,8 @@ impl Cells {
 
     /// One more cell, where it is not there.
     pub(crate) fn insert(&mut self, cell: Cell) -> Result<(), AllocError>
-        ensures { OnOk result (self.new ≡ (if list_any (same_cell cell) self.old then self.old else self.old ++ cell ∷ [])) }
+        ensures { OnOk result (self.new
+            ≡ (if list_any (same_cell cell) self.old then self.old else self.old ++ cell ∷ [])) }
     {
         self.set.insert(cell)?;
         Ok(())

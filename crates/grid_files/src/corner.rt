@@ -8,7 +8,8 @@ use crate::fault::TextCause;
 use crate::piece::Piece;
 use elem_cubes::{HIGH, LOW, MAX_EMBEDDING};
 
-/// The first numbers of a corner, and how many it has, counted up to one more than a corner may have.
+/// The first numbers of a corner, and how many it has, counted up to one more than a corner may
+/// have.
 #[derive(Clone, Copy)]
 pub struct OpenCorner {
     pub numbers: [i32; MAX_EMBEDDING],

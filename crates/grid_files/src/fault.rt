@@ -1,4 +1,5 @@
 //! What may stand in a set file, and why a text is refused.
+use std::alloc::AllocError;
 use thiserror::Error;
 
 /// Which cells a set file may hold: any, or full cubes alone.
@@ -38,4 +39,15 @@ pub enum TextFault {
     At { place: u64, cause: TextCause },
     #[error("out of memory")]
     NoMemory,
+}
+
+impl From<AllocError> for TextFault {
+    ghost use Rattle.std.specs.Prelude.{◌≡◌};
+    ghost use Rattle.grid_files.specs.declared.fault.TextFault.TheVariants.{NoMemory};
+
+    ghost from_gives = { λ _ fault. fault ≡ NoMemory };
+
+    fn from(_error: AllocError) -> TextFault {
+        TextFault::NoMemory
+    }
 }

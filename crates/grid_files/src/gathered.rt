@@ -34,7 +34,8 @@ impl Gathered {
     // One more cube.
     fn join_cell(&mut self, cell: Cell) -> Result<(), Refusal>
         requires { IsTrue (list_all is_file_factor cell) }
-        ensures joins { (set : Members) → IsGathered self.old set → Joins (cell_cause self.old.kind set cell) (with_cell set (Some cell)) self.new result }
+        ensures joins { (set : Members) → IsGathered self.old set
+            → Joins (cell_cause self.old.kind set cell) (with_cell set (Some cell)) self.new result }
         ensures kept { self.new.kind ≡ self.old.kind }
     {
         let dimension = cell.embedding() as u8;
@@ -56,7 +57,8 @@ impl Gathered {
 
     // A dimension line.
     fn join_dimension(&mut self, z: i64) -> Result<(), Refusal>
-        ensures joins { (set : Members) → IsGathered self.old set → Joins (dimension_cause set z) (with_item set (dimension_line z)) self.new result }
+        ensures joins { (set : Members) → IsGathered self.old set
+            → Joins (dimension_cause set z) (with_item set (dimension_line z)) self.new result }
         ensures kept { self.new.kind ≡ self.old.kind }
     {
         if z < 1 {
@@ -76,7 +78,8 @@ impl Gathered {
     // A cube, or why there is none.
     fn join_cube(&mut self, cube: Result<Cell, TextCause>) -> Result<(), Refusal>
         requires { IfOk cube (λ cell. IsTrue (list_all is_file_factor cell)) }
-        ensures joins { (set : Members) (numbers : ℕ) (q : Option (List Factor)) → IsGathered self.old set → IsCellOf numbers q cube
+        ensures joins { (set : Members) (numbers : ℕ) (q : Option (List Factor))
+            → IsGathered self.old set → IsCellOf numbers q cube
             → Joins (cube_cause self.old.kind set numbers q) (with_cell set q) self.new result }
         ensures kept { self.new.kind ≡ self.old.kind }
     {
@@ -88,7 +91,8 @@ impl Gathered {
 
     /// A whole item.
     pub(crate) fn join(&mut self, closing: Closing) -> Result<(), Refusal>
-        ensures joins { (set : Members) (item : Item) → IsGathered self.old set → IsClosing closing item → fits item ≡ true
+        ensures joins { (set : Members) (item : Item)
+            → IsGathered self.old set → IsClosing closing item → fits item ≡ true
             → Joins (cause_of self.old.kind set item) (with_item set item) self.new result }
         ensures kept { self.new.kind ≡ self.old.kind }
     {

@@ -1,5 +1,6 @@
-//! Texts of sets of cells: set files, read and written. What callers need of sets is given on under this name. The pieces of a text
-//! and the corners of full cubes serve the readers of other files too.
+//! Texts of sets of cells: set files, read and written. What callers need of sets is given on under
+//! this name. The pieces of a text and the corners of full cubes serve the readers of other files
+//! too.
 #![tactic(auto)]
 
 mod cells;
@@ -18,18 +19,11 @@ mod write;
 pub use corner::{CornerStep, OpenCorner, in_corner};
 pub use cube_sets::{CUBES, CubeSet, SetFault, are_members};
 pub use fault::{Kind, TextCause, TextFault};
-pub use laws::{texts_have_one_outcome, written_sets_are_read};
+pub use laws::{
+    keyword_is_of_the_format, refusals_are_first, texts_have_one_outcome, written_sets_are_read,
+};
 pub use piece::Piece;
 pub use scanner::{Carry, Placed, Scanned, scan};
 pub use set_file::read_set;
 pub use whole_cube::full_cube;
 pub use write::write_set;
-
-#[cfg(test)]
-mod limit_tests;
-#[cfg(test)]
-mod read_tests;
-#[cfg(test)]
-mod tests;
-#[cfg(test)]
-mod write_tests;

@@ -1,4 +1,5 @@
-//! The reader of set files: a machine of fixed size over the bytes of a text, beside the distinct cells so far.
+//! The reader of set files: a machine of fixed size over the bytes of a text, beside the distinct
+//! cells so far.
 ghost use Rattle.std.specs.Prelude.{◌≡◌, ◌∷◌, ℕ, List, IfOk};
 ghost use Rattle.cube_sets.specs.Sets.{Members};
 ghost use Rattle.grid_files.specs.Items.{Item, Open, nothing};
@@ -30,16 +31,7 @@ pub(crate) struct Reader {
 fn start_of(opening: Opening, start: u64, at: u64) -> u64
     ensures { (o : Open) → IsOpening opening o → result ≡ start_of o start at }
 {
-    match opening {
-        Opening::Nothing => at,
-        Opening::InFull(_)
-        | Opening::BeforeLower
-        | Opening::InLower(_)
-        | Opening::BeforeUpper(_)
-        | Opening::InUpper(_, _)
-        | Opening::BeforeEnd(_, _)
-        | Opening::BehindWord => start,
-    }
+    if opening.is_open() { start } else { at }
 }
 
 // The place of an item's fault.
@@ -73,7 +65,8 @@ impl Reader {
     // One more piece.
     fn take(&mut self, at: u64, piece: Piece) -> Result<(), TextFault>
         ensures { (set : Members) (o : Open) → Reads self.old set o
-            → Leads self.old.gathered.kind set o self.old.start (λ rest. (at, piece) ∷ rest) self.new result }
+            → Leads self.old.gathered.kind set o self.old.start
+            (λ rest. (at, piece) ∷ rest) self.new result }
     {
         let start = start_of(self.opening, self.start, at);
         match take_turn(self.opening, piece) {
@@ -112,7 +105,8 @@ impl Reader {
     // At most two pieces.
     fn take_both(&mut self, first: Option<Placed>, second: Option<Placed>) -> Result<(), TextFault>
         ensures { (set : Members) (o : Open) → Reads self.old set o
-            → Leads self.old.gathered.kind set o self.old.start (λ rest. listed first (listed second rest)) self.new result }
+            → Leads self.old.gathered.kind set o self.old.start
+            (λ rest. listed first (listed second rest)) self.new result }
     {
         match self.take_any(first) {
             Ok(()) => self.take_any(second),
@@ -138,7 +132,8 @@ impl Reader {
     /// The text is at its end.
     pub(crate) fn finish(&self, alloc: Global) -> Result<CubeSet, TextFault>
         requires { (set : Members) × (o : Open) × Reads self.now set o }
-        ensures { (set : Members) (o : Open) → Reads self.now set o → Ends o self.now.start set result }
+        ensures { (set : Members) (o : Open)
+            → Reads self.now set o → Ends o self.now.start set result }
     {
         if self.opening.is_open() {
             return Err(TextFault::At {
@@ -146,12 +141,8 @@ impl Reader {
                 cause: TextCause::Unclosed,
             });
         }
-        let Ok(cells) = self.gathered.cells.to_vec(alloc) else {
-            return Err(TextFault::NoMemory);
-        };
-        let Ok(set) = CubeSet::of_cells(self.gathered.dimension, cells) else {
-            return Err(TextFault::NoMemory);
-        };
+        let cells = self.gathered.cells.to_vec(alloc)?;
+        let set = CubeSet::of_cells(self.gathered.dimension, cells)?;
         let _len = set.len();
         Ok(set)
     }

@@ -95,7 +95,8 @@ fn number_piece(negative: bool, value: u64) -> Piece
 
 // Behind a byte of a line that is skipped, or that ends it.
 fn on_line(b: u8) -> Carry
-    ensures pieces { (place : ℕ) (bs : List ℕ) → behind_line place (b ∷ bs) ≡ left result (place + 1) bs }
+    ensures pieces { (place : ℕ) (bs : List ℕ)
+        → behind_line place (b ∷ bs) ≡ left result (place + 1) bs }
     ensures carry { IsCarry result }
     ensures line { b ≡ 10 → result ≡ Between }
 {
@@ -108,7 +109,8 @@ fn on_line(b: u8) -> Carry
 
 // Behind the first byte of what stands between two tokens.
 fn begin(place: u64, b: u8) -> (Carry, Option<Placed>)
-    ensures pieces { (bs : List ℕ) → pieces_behind 0 place (b ∷ bs) ≡ listed result.1 (left result.0 (place + 1) bs) }
+    ensures pieces { (bs : List ℕ)
+        → pieces_behind 0 place (b ∷ bs) ≡ listed result.1 (left result.0 (place + 1) bs) }
     ensures carry { IsCarry result.0 }
     ensures line { b ≡ 10 → result.0 ≡ Between }
 {
@@ -147,7 +149,8 @@ fn begin(place: u64, b: u8) -> (Carry, Option<Placed>)
 fn letter(at: u64, matched: usize, b: u8) -> (Carry, Option<Placed>)
     requires matched { matched ≤ 9 }
     requires letter { is_ascii_alphabetic b ≡ true }
-    ensures pieces { (place : ℕ) (bs : List ℕ) → left (Word at matched) place (b ∷ bs) ≡ listed result.1 (left result.0 (place + 1) bs) }
+    ensures pieces { (place : ℕ) (bs : List ℕ) → left (Word at matched) place (b ∷ bs)
+        ≡ listed result.1 (left result.0 (place + 1) bs) }
     ensures carry { IsCarry result.0 }
     ensures line { b ≡ 10 → result.0 ≡ Between }
 {
@@ -165,7 +168,8 @@ fn letter(at: u64, matched: usize, b: u8) -> (Carry, Option<Placed>)
 
 // Behind a byte that stands behind the word `dimension`, before its number.
 fn begin_number(place: u64, b: u8) -> (Carry, Option<Placed>)
-    ensures pieces { (bs : List ℕ) → left Behind place (b ∷ bs) ≡ listed result.1 (left result.0 (place + 1) bs) }
+    ensures pieces { (bs : List ℕ)
+        → left Behind place (b ∷ bs) ≡ listed result.1 (left result.0 (place + 1) bs) }
     ensures carry { IsCarry result.0 }
     ensures line { b ≡ 10 → result.0 ≡ Between }
 {
@@ -194,7 +198,8 @@ fn begin_number(place: u64, b: u8) -> (Carry, Option<Placed>)
 
 // Behind a byte that stands behind the number of a dimension line.
 fn after_number(place: u64, b: u8) -> (Carry, Option<Placed>)
-    ensures pieces { (bs : List ℕ) → left AfterNumber place (b ∷ bs) ≡ listed result.1 (left result.0 (place + 1) bs) }
+    ensures pieces { (bs : List ℕ)
+        → left AfterNumber place (b ∷ bs) ≡ listed result.1 (left result.0 (place + 1) bs) }
     ensures carry { IsCarry result.0 }
     ensures line { b ≡ 10 → result.0 ≡ Between }
 {

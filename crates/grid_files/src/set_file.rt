@@ -11,12 +11,13 @@ use crate::scanner::Carry;
 use cube_sets::{CUBES, CubeSet};
 use std::alloc::Global;
 
-/// The set of a set file: the value of the text, or the place and the cause of its refusal. With `Kind::Full` full cubes alone
-/// are read. A set that is read has at most `CUBES` members.
+/// The set of a set file: the value of the text, or the place and the cause of its refusal. With
+/// `Kind::Full` full cubes alone are read. A set that is read has at most `CUBES` members.
 pub fn read_set(alloc: Global, bytes: &[u8], kind: Kind) -> Result<CubeSet, TextFault>
     ensures value { IfOk result (λ set. HasValue kind bytes.now set) }
     ensures few { IfOk result (λ set. length set.cells ≤ CUBES) }
-    ensures full { kind ≡ Kind.Full → IfOk result (λ set. IsTrue (list_all (list_all is_wide) set.cells)) }
+    ensures full { kind ≡ Kind.Full
+        → IfOk result (λ set. IsTrue (list_all (list_all is_wide) set.cells)) }
     ensures refusal { IfErr result (IsFaultOf kind bytes.now) }
 {
     let mut reader = Reader::new(alloc, kind);

@@ -3,7 +3,7 @@ ghost use Rattle.std.specs.Prelude.{◌≡◌, ◌≤◌, ◌<◌, ◌^◌, max,
 ghost use Rattle.std.specs.List.{list_all};
 ghost use Rattle.std.specs.Option.{option_map};
 ghost use Rattle.elem_cubes.specs.Corners.{is_file_end};
-ghost use Rattle.elem_cubes.specs.Cells.{Factor, point, interval, full_cell, cell_of, is_file_factor};
+ghost use Rattle.elem_cubes.specs.Cells.{Factor, point, interval, factor_of, full_cell, cell_of, is_file_factor};
 ghost use Rattle.grid_files.specs.Items.{fits_corner, is_full_end, cell_between, factor_between};
 ghost use Rattle.grid_files.specs.Corners.{IsCorner, IsCellOf};
 
@@ -14,7 +14,8 @@ use elem_cubes::{Cell, Corner, MAX_EMBEDDING};
 /// The full cube with this lower corner.
 pub fn full_cube(corner: &OpenCorner) -> Result<Cell, TextCause>
     ensures ok { IfOk result (λ cell. IsTrue (list_all is_file_factor cell)) }
-    ensures cell { (xs : List ℤ) → IsCorner corner.now xs → fits_corner is_full_end xs ≡ true → IsCellOf (length xs) (Some (full_cell xs)) result }
+    ensures cell { (xs : List ℤ) → IsCorner corner.now xs → fits_corner is_full_end xs ≡ true
+        → IsCellOf (length xs) (Some (full_cell xs)) result }
 {
     if corner.count > MAX_EMBEDDING {
         return Err(TextCause::DimensionTooLarge);
@@ -28,7 +29,8 @@ pub fn full_cube(corner: &OpenCorner) -> Result<Cell, TextCause>
 // The cell, where there is one in the range of the files.
 fn in_range(cell: Option<Cell>) -> Result<Cell, TextCause>
     ensures ok { IfOk result (λ cell. IsTrue (list_all is_file_factor cell)) }
-    ensures cell { (q : List Factor) → cell ≡ Some q → list_all is_file_factor q ≡ true → result ≡ Ok q }
+    ensures cell { (q : List Factor)
+        → cell ≡ Some q → list_all is_file_factor q ≡ true → result ≡ Ok q }
 {
     match cell {
         Some(cell) if cell.in_range() => Ok(cell),
@@ -39,7 +41,8 @@ fn in_range(cell: Option<Cell>) -> Result<Cell, TextCause>
 /// The elementary cube with these corners.
 pub(crate) fn cube_between(lower: &OpenCorner, upper: &OpenCorner) -> Result<Cell, TextCause>
     ensures ok { IfOk result (λ cell. IsTrue (list_all is_file_factor cell)) }
-    ensures cell { (ls us : List ℤ) → IsCorner lower.now ls → IsCorner upper.now us → fits_corner is_file_end ls ≡ true → fits_corner is_file_end us ≡ true
+    ensures cell { (ls us : List ℤ) → IsCorner lower.now ls → IsCorner upper.now us
+        → fits_corner is_file_end ls ≡ true → fits_corner is_file_end us ≡ true
         → IsCellOf (max (length ls) (length us)) (cell_between ls us) result }
 {
     if lower.count > MAX_EMBEDDING || upper.count > MAX_EMBEDDING {
@@ -77,7 +80,7 @@ fn axes_between(lows: &[i32], highs: &[i32]) -> Option<u8>
 
 // Whether the factor between two ends is an interval, or a point; nothing where there is none.
 fn is_wide_between(low: i32, high: i32) -> Option<bool>
-    ensures { option_map (λ wide. if wide then interval low else point low) result ≡ factor_between low high }
+    ensures { option_map (λ wide. factor_of wide low) result ≡ factor_between low high }
 {
     if low == high {
         Some(false)

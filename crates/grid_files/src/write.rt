@@ -1,44 +1,14 @@
 //! Sets as texts.
-ghost use Rattle.std.specs.Prelude.{◌≡◌, ◌++◌, ◌≤◌, length, OnOk, IfOk, drop, ◌∷◌, []};
+ghost use Rattle.std.specs.Prelude.{◌≡◌, ◌++◌, ◌≤◌, length, OnOk, IfOk, ◌∷◌, []};
 ghost use Rattle.std.specs.List.{flat_map};
-ghost use Rattle.grid_files.specs.Written.{spaced, next_text, corner_text, cell_text, cell_line, written};
+ghost use Rattle.grid_files.specs.Written.{cell_text, cell_line, written};
 
 use crate::piece::DIMENSION;
+use corner_texts::put_corner;
 use cube_sets::{CUBES, CubeSet};
-use elem_cubes::{Cell, Corner};
+use elem_cubes::Cell;
 use outside::put_number;
 use std::alloc::{AllocError, Global};
-
-// Numbers separated by one space.
-fn put_numbers(to: &mut Vec<u8>, numbers: &[i32]) -> Result<(), AllocError>
-    ensures { OnOk result (to.new.items ≡ to.old.items ++ drop 1 (spaced numbers.now)) }
-{
-    for i in 0..numbers.len() {
-        put_next(to, i == 0, numbers[i])?;
-    }
-    Ok(())
-}
-
-// A number, behind a space where it is not the first.
-fn put_next(to: &mut Vec<u8>, first: bool, number: i32) -> Result<(), AllocError>
-    ensures { OnOk result (to.new.items ≡ to.old.items ++ next_text first number) }
-{
-    if first {
-        return put_number(to, i64::from(number));
-    }
-    to.push(b' ')?;
-    put_number(to, i64::from(number))
-}
-
-// A corner in its brackets.
-fn put_corner(to: &mut Vec<u8>, corner: &Corner) -> Result<(), AllocError>
-    ensures { OnOk result (to.new.items ≡ to.old.items ++ corner_text corner.now) }
-{
-    to.push(b'(')?;
-    put_numbers(to, corner.coordinates())?;
-    to.push(b')')?;
-    Ok(())
-}
 
 // A cell.
 fn put_cell(to: &mut Vec<u8>, cell: &Cell) -> Result<(), AllocError>

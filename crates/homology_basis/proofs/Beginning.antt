@@ -1,5 +1,5 @@
 -- One class: its cycle and its cocycle, divided and multiplied by the first coefficient of the inclusion.
-use Rattle.std.proofs.Common.{◌≡◌, ◌≢◌, ℕ, zero, suc, ◌+◌, ◌*◌, ◌%◌, ◌<◌, ◌≤◌, ◌^◌, refl, sym, ap, ◌∙◌, arith, ⊎_elim, cond, eqb, eq-eqb, ne_eqb, List, [], ◌∷◌, length, get_or}
+use Rattle.std.proofs.Common.{◌≡◌, ◌≢◌, ℕ, zero, suc, ◌+◌, ◌*◌, ◌%◌, ◌<◌, ◌≤◌, ◌^◌, refl, sym, ap, ◌∙◌, arith, ⊎_elim, cond, eqb, eq-eqb, ne_eqb, List, [], ◌∷◌, length, get_or, Bool, true}
 use Rattle.std.proofs.lemmas.Bool.{cases_eq, cases_lt}
 use Rattle.std.proofs.Math.Nat.{mod-eq_of_lt}
 use Rattle.field_mod.specs.Sums.{total}
@@ -14,10 +14,10 @@ use Rattle.algebraic_reduction.specs.Laws.{IsReduction, include_of, project_of}
 use Rattle.algebraic_reduction.proofs.Columns.{reduced, same_zero}
 use Rattle.homology_basis.specs.Bases.{BeginsWithOne}
 use Rattle.homology_basis.specs.Classes.{IsClass}
-use Rattle.homology_basis.proofs.Maps.{exact, through, single-self, single-other, total_picked_other}
-use Rattle.homology_basis.proofs.LeftOnes.{single_left}
+use Rattle.algebraic_reduction.proofs.LinearMaps.{exact, through, single-self, single-other, total_picked_other}
+use Rattle.algebraic_reduction.proofs.Singles.{single_left}
 
-same_small : (p a b : ℕ) → a < p → b < p → Same p a b → a ≡ b
+pub same_small : (p a b : ℕ) → a < p → b < p → Same p a b → a ≡ b
 same_small p a b l m s = sym (mod-eq_of_lt l) ∙ s.same ∙ mod-eq_of_lt m
 
 -- once a normal chain is that chain
@@ -40,7 +40,7 @@ pub one_term_other : (p g : ℕ) (ts : List (ℕ × ℕ)) → ((h : ℕ) → coe
 one_term_other p g ts sum h f = same_trans (one_term p g ts sum h) (exact p _ 0 (single-other g h f))
 
 -- the first term of a normal chain is the coefficient at its generator
-first_at : (p low high : ℕ) (t : ℕ × ℕ) (ts : List (ℕ × ℕ)) → IsNormalWithin p low high (t ∷ ts) → coefficient (t ∷ ts) t.0 ≡ t.1
+pub first_at : (p low high : ℕ) (t : ℕ × ℕ) (ts : List (ℕ × ℕ)) → IsNormalWithin p low high (t ∷ ts) → coefficient (t ∷ ts) t.0 ≡ t.1
 first_at p low high t ts w =
     let a = coefficient-below p (t.0 + 1) high ts t.0 w.3 (omega arith) in
     let b : cond (eqb t.0 t.0) t.1 0 ≡ t.1 = rw (eq-eqb t.0 t.0 refl) refl in
@@ -88,28 +88,38 @@ module _ (p : ℕ) (K : ChainComplex) (ss : List Step) (g : ℕ) (two : 2 ≤ p)
           let e = same_small p 1 0 (omega arith) (omega arith) (same_trans (exact p 1 _ (sym (single-self g))) (same_trans (same_sym a) (same_trans b c))) in
           absurd (omega arith)
 
-  pub is_class : (π z c : List (ℕ × ℕ)) (u a : ℕ) → g < length K.boundaries
-      → ((h : ℕ) → h < length K.boundaries → Same p (coefficient π h) (total (length K.boundaries) (λ t. coefficient x t * project_of p K ss (single h) t)))
-      → ((h : ℕ) → length K.boundaries ≤ h → Same p (coefficient π h) (coefficient x h))
+  pub is_class : (wanted : Bool) (z c : List (ℕ × ℕ)) (u a : ℕ) → g < length K.boundaries
       → (u * a) % p ≡ 1 → a ≡ (get_or ι 0 (0, 0)).1 → IsNormal p ι → IsNormal p z → IsNormal p c
-      → ((h : ℕ) → coefficient z h ≡ (u * coefficient ι h) % p) → ((h : ℕ) → coefficient c h ≡ (a * coefficient π h) % p)
-      → IsClass p K ss (record { generator = g; cycle = z; cocycle = c })
-  is_class π z c u a inside projection past inverse head nι nz nc cycle cocycle = record {
+      → ((h : ℕ) → coefficient z h ≡ (u * coefficient ι h) % p)
+      → (wanted ≡ true → (h : ℕ) → h < length K.boundaries → Same p (coefficient c h) (a * total (length K.boundaries) (λ t. coefficient x t * project_of p K ss (single h) t)))
+      → (wanted ≡ true → (h : ℕ) → length K.boundaries ≤ h → Same p (coefficient c h) (a * coefficient x h))
+      → IsClass p K ss wanted (record { generator = g; cycle = z; cocycle = c })
+  is_class wanted z c u a inside inverse head nι nz nc cycle cocycle past = record {
     inside = inside;
     unpaired = left;
     cycle_normal = nz;
-    cocycle_normal = nc;
     multiple = u;
     first = a;
     inverse = unit;
     cycle = λ h. same_trans (reduced p _ _ (cycle h)) (same-scale u (included h));
     begins = begins p u (2 ^ 32) ι z two nι nz some_term (λ h. reduced p _ _ (cycle h)) (same_trans (exact p _ _ (ap (λ v. u * v) (sym head))) unit);
-    cocycle = λ h l. same_trans (reduced p _ _ (cocycle h)) (same-scale a (same_trans (projection h l)
+    cocycle_normal = λ on. nc;
+    cocycle = λ on h l. same_trans (cocycle on h l) (same-scale a
         (same_trans (total_same p (length K.boundaries) (λ t. coefficient x t * project_of p K ss (single h) t) (λ t. single g t * project_of p K ss (single h) t) (λ t _. same-mul (one t) (same_refl p (project_of p K ss (single h) t))))
-        (exact p _ _ (total_picked_other (length K.boundaries) g (project_of p K ss (single h)) inside)))));
-    cocycle_past = λ h l. same_zero p (coefficient c h) (coefficient-lt p 0 (2 ^ 32) c h (omega arith) nc)
-        (same_trans (reduced p _ _ (cocycle h)) (same_trans (same-scale a (same_trans (past h l) (same_trans (one h) (exact p _ 0 (single-other g h (λ e. absurd (omega arith))))))) (exact p (a * 0) 0 (omega arith))));
+        (exact p _ _ (total_picked_other (length K.boundaries) g (project_of p K ss (single h)) inside))));
+    cocycle_past = λ on h l. same_zero p (coefficient c h) (coefficient-lt p 0 (2 ^ 32) c h (omega arith) nc)
+        (same_trans (past on h l) (same_trans (same-scale a (same_trans (one h) (exact p _ 0 (single-other g h (λ e. absurd (omega arith)))))) (exact p (a * 0) 0 (omega arith))));
   }
     where
       unit : Same p (u * a) 1
       unit = record { same = inverse ∙ sym (mod-eq_of_lt (omega arith)) }
+
+-- a multiple of a transposed projection, as the numbers modulo p
+pub scaled_projection : (p n a : ℕ) (x π c : List (ℕ × ℕ)) (f : ℕ → ℕ)
+    → ((h : ℕ) → h < n → Same p (coefficient π h) (f h)) → ((h : ℕ) → n ≤ h → Same p (coefficient π h) (coefficient x h))
+    → ((h : ℕ) → coefficient c h ≡ (a * coefficient π h) % p)
+    → ((h : ℕ) → h < n → Same p (coefficient c h) (a * f h)) × ((h : ℕ) → n ≤ h → Same p (coefficient c h) (a * coefficient x h))
+scaled_projection p n a x π c f inside past value = (
+  (λ h l. same_trans (reduced p _ _ (value h)) (same-scale a (inside h l))),
+  (λ h l. same_trans (reduced p _ _ (value h)) (same-scale a (past h l))),
+)

@@ -1,5 +1,5 @@
 -- The classes of a degree while they are collected, generator after generator.
-use Rattle.std.proofs.Common.{◌≡◌, ◌≢◌, ℕ, ◌+◌, ◌<◌, ◌≤◌, ◌⊎◌, ◌==◌, if◌then◌else◌, inl, inr, refl, sym, ap, ◌∙◌, arith, ⊎_elim, eq-eqb, ne_eqb, List, [], ◌∷◌, ◌++◌, length, length-append, get_or, subst}
+use Rattle.std.proofs.Common.{◌≡◌, ◌≢◌, ℕ, ◌+◌, ◌<◌, ◌≤◌, ◌⊎◌, ◌==◌, if◌then◌else◌, inl, inr, refl, sym, ap, ◌∙◌, arith, ⊎_elim, eq-eqb, ne_eqb, List, [], ◌∷◌, ◌++◌, length, length-append, get_or, Bool, subst}
 use Rattle.std.proofs.lemmas.Bool.{cases_eq, cases_lt}
 use Rattle.std.proofs.lemmas.List.{get_or_append_left}
 use Rattle.std.proofs.Math.Seq.{get_or-append_seam}
@@ -9,8 +9,8 @@ use Rattle.homology_basis.specs.Bases.{in_degree}
 use Rattle.homology_basis.specs.Classes.{ClassOf, IsClass, AreClassesBelow}
 
 -- no generator is below 0
-pub none_below : (p : ℕ) (K : ChainComplex) (ss : List Step) (k : ℕ) → AreClassesBelow p K ss 0 k []
-none_below p K ss k = record {
+pub none_below : (p : ℕ) (K : ChainComplex) (ss : List Step) (wanted : Bool) (k : ℕ) → AreClassesBelow p K ss wanted 0 k []
+none_below p K ss wanted k = record {
   few = omega arith;
   each = λ i d q. absurd (omega arith);
   below = λ i d q. absurd (omega arith);
@@ -20,9 +20,9 @@ none_below p K ss k = record {
 }
 
 -- the next generator is not left, or of another degree
-pub stays : (p : ℕ) (K : ChainComplex) (ss : List Step) (b k : ℕ) (cs : List ClassOf) → AreClassesBelow p K ss b k cs
-    → (get_or K.degrees b 0 ≡ k → IsUnpaired ss b → ⊥) → AreClassesBelow p K ss (b + 1) k cs
-stays p K ss b k cs x other = record {
+pub stays : (p : ℕ) (K : ChainComplex) (ss : List Step) (wanted : Bool) (b k : ℕ) (cs : List ClassOf) → AreClassesBelow p K ss wanted b k cs
+    → (get_or K.degrees b 0 ≡ k → IsUnpaired ss b → ⊥) → AreClassesBelow p K ss wanted (b + 1) k cs
+stays p K ss wanted b k cs x other = record {
   few = omega (arith, x.few);
   each = x.each;
   below = λ i d q. omega (arith, x.below i d q);
@@ -43,13 +43,13 @@ last_or cs c i d q = ⊎_elim
     (cases_lt i (length cs))
 
 -- the next generator is left and of this degree
-pub added : (p : ℕ) (K : ChainComplex) (ss : List Step) (b k : ℕ) (cs : List ClassOf) (c : ClassOf) → AreClassesBelow p K ss b k cs
-    → IsClass p K ss c → c.generator ≡ b → get_or K.degrees b 0 ≡ k → AreClassesBelow p K ss (b + 1) k (cs ++ c ∷ [])
-added p K ss b k cs c x is at degree = record {
+pub added : (p : ℕ) (K : ChainComplex) (ss : List Step) (wanted : Bool) (b k : ℕ) (cs : List ClassOf) (c : ClassOf) → AreClassesBelow p K ss wanted b k cs
+    → IsClass p K ss wanted c → c.generator ≡ b → get_or K.degrees b 0 ≡ k → AreClassesBelow p K ss wanted (b + 1) k (cs ++ c ∷ [])
+added p K ss wanted b k cs c x is at degree = record {
   few = omega (arith, x.few, length-append cs (c ∷ []));
   each = λ i d q. ⊎_elim
-      (λ w. subst (IsClass p K ss) (sym w.1) (x.each i d w.0))
-      (λ w. subst (IsClass p K ss) (sym w.1) is)
+      (λ w. subst (IsClass p K ss wanted) (sym w.1) (x.each i d w.0))
+      (λ w. subst (IsClass p K ss wanted) (sym w.1) is)
       (last_or cs c i d q);
   below = λ i d q. ⊎_elim
       (λ w. subst (λ (v : ClassOf). v.generator < b + 1) (sym w.1) (omega (arith, x.below i d w.0)))
@@ -70,13 +70,13 @@ added p K ss b k cs c x is at degree = record {
 }
 
 -- one more class in its degree
-pub next_class : (p : ℕ) (K : ChainComplex) (ss : List Step) (b degree : ℕ) (css now : List (List ClassOf)) (c : ClassOf)
-    → ((k : ℕ) → AreClassesBelow p K ss b k (in_degree css k)) → IsClass p K ss c → c.generator ≡ b → degree ≡ get_or K.degrees b 0
+pub next_class : (p : ℕ) (K : ChainComplex) (ss : List Step) (wanted : Bool) (b degree : ℕ) (css now : List (List ClassOf)) (c : ClassOf)
+    → ((k : ℕ) → AreClassesBelow p K ss wanted b k (in_degree css k)) → IsClass p K ss wanted c → c.generator ≡ b → degree ≡ get_or K.degrees b 0
     → ((k : ℕ) → in_degree now k ≡ (if k == degree then in_degree css k ++ c ∷ [] else in_degree css k))
-    → (k : ℕ) → AreClassesBelow p K ss (b + 1) k (in_degree now k)
-next_class p K ss b degree css now c x is at d e k = ⊎_elim
-    (λ s. subst (AreClassesBelow p K ss (b + 1) k) (sym (e k ∙ chosen s)) (added p K ss b k (in_degree css k) c (x k) is at (sym d ∙ sym s)))
-    (λ o. subst (AreClassesBelow p K ss (b + 1) k) (sym (e k ∙ passed o)) (stays p K ss b k (in_degree css k) (x k) (λ s u. o (sym s ∙ sym d))))
+    → (k : ℕ) → AreClassesBelow p K ss wanted (b + 1) k (in_degree now k)
+next_class p K ss wanted b degree css now c x is at d e k = ⊎_elim
+    (λ s. subst (AreClassesBelow p K ss wanted (b + 1) k) (sym (e k ∙ chosen s)) (added p K ss wanted b k (in_degree css k) c (x k) is at (sym d ∙ sym s)))
+    (λ o. subst (AreClassesBelow p K ss wanted (b + 1) k) (sym (e k ∙ passed o)) (stays p K ss wanted b k (in_degree css k) (x k) (λ s u. o (sym s ∙ sym d))))
     (cases_eq k degree)
   where
     chosen : k ≡ degree → (if k == degree then in_degree css k ++ c ∷ [] else in_degree css k) ≡ in_degree css k ++ c ∷ []
@@ -86,7 +86,7 @@ next_class p K ss b degree css now c x is at d e k = ⊎_elim
     passed o = rw (ne_eqb k degree o) refl
 
 -- a generator that is not left
-pub no_class_more : (p : ℕ) (K : ChainComplex) (ss : List Step) (b : ℕ) (css now : List (List ClassOf))
-    → ((k : ℕ) → AreClassesBelow p K ss b k (in_degree css k)) → (IsUnpaired ss b → ⊥) → now ≡ css
-    → (k : ℕ) → AreClassesBelow p K ss (b + 1) k (in_degree now k)
-no_class_more p K ss b css now x none e k = subst (λ (l : List (List ClassOf)). AreClassesBelow p K ss (b + 1) k (in_degree l k)) (sym e) (stays p K ss b k (in_degree css k) (x k) (λ s u. none u))
+pub no_class_more : (p : ℕ) (K : ChainComplex) (ss : List Step) (wanted : Bool) (b : ℕ) (css now : List (List ClassOf))
+    → ((k : ℕ) → AreClassesBelow p K ss wanted b k (in_degree css k)) → (IsUnpaired ss b → ⊥) → now ≡ css
+    → (k : ℕ) → AreClassesBelow p K ss wanted (b + 1) k (in_degree now k)
+no_class_more p K ss wanted b css now x none e k = subst (λ (l : List (List ClassOf)). AreClassesBelow p K ss wanted (b + 1) k (in_degree l k)) (sym e) (stays p K ss wanted b k (in_degree css k) (x k) (λ s u. none u))

@@ -8,9 +8,10 @@ use Rattle.chains.specs.Homology.{IsChain}
 use Rattle.chains.specs.ChainComplex.{ChainComplex, IsComplex, system, incidence, boundary}
 use Rattle.algebraic_reduction.specs.Reduction.{single, Step}
 use Rattle.algebraic_reduction.specs.Laws.{IsReduction, IsLeft, include_of, project_of, homotopy_of}
-use Rattle.homology_basis.proofs.Maps.{exact, through, of_generators}
+use Rattle.algebraic_reduction.proofs.LinearMaps.{exact, through, of_generators}
 use Rattle.homology_basis.proofs.Scaled.{undone}
-use Rattle.homology_basis.proofs.LeftOnes.{single_chain, incidence_off, boundary_single, expanded}
+use Rattle.algebraic_reduction.proofs.Singles.{single_chain, incidence_off, boundary_single}
+use Rattle.homology_basis.proofs.LeftOnes.{expanded}
 
 module _ (p k m : ℕ) (K : ChainComplex) (ss : List Step) (at : ℕ → ℕ) (cx : IsComplex p K) (r : IsReduction p K ss) (lf : IsLeft K k ss m at) where
   -- the inclusion of the projection of a generator of degree k

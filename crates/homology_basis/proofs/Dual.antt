@@ -11,8 +11,8 @@ use Rattle.chains.specs.ChainComplex.{ChainComplex, IsComplex, system, incidence
 use Rattle.chains.proofs.Boundary.{product-total}
 use Rattle.algebraic_reduction.specs.Reduction.{single, Step, IsUnpaired, IsOnLeft, boundary_by}
 use Rattle.algebraic_reduction.specs.Laws.{IsReduction, IsLeft, NothingLeft, include_of, project_of, left_of, left_boundary_of}
-use Rattle.homology_basis.proofs.Maps.{exact, of_generators, single-other, single-self}
-use Rattle.homology_basis.proofs.LeftOnes.{single_left, single_chain, incidence_off, boundary_single}
+use Rattle.algebraic_reduction.proofs.LinearMaps.{exact, of_generators, single-other, single-self}
+use Rattle.algebraic_reduction.proofs.Singles.{single_left, single_chain, incidence_off, boundary_single}
 
 -- a normal chain without coefficients from n on is normal below n
 pub within : (p low high n : ℕ) (ts : List (ℕ × ℕ)) → IsNormalWithin p low high ts → low ≤ n → ((g : ℕ) → n ≤ g → coefficient ts g ≡ 0) → IsNormalWithin p low n ts

@@ -1,4 +1,3 @@
-pub mod Maps
 pub mod Scaled
 pub mod LeftOnes
 pub mod Dual
@@ -7,3 +6,4 @@ pub mod Collected
 pub mod ByDegree
 pub mod Beginning
 pub mod Whole
+pub mod Unique

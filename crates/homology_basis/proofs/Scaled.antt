@@ -6,7 +6,7 @@ use Rattle.field_mod.proofs.Sums.{total_same}
 use Rattle.field_mod.proofs.Modular.{same_by, same_refl, same_sym, same_trans, same-add, same-scale, same-mul}
 use Rattle.chains.specs.Homology.{System, IsChain, IsCycle, IsNull, IsBasis, IsBoundaryOperator, combination}
 use Rattle.chains.proofs.Systems.{boundary-same, boundary-scale, null-same}
-use Rattle.homology_basis.proofs.Maps.{exact}
+use Rattle.algebraic_reduction.proofs.LinearMaps.{exact}
 
 -- x is 0 where x times a number with an inverse is 0
 pub cancelled : (p x u a : ℕ) → Same p (u * a) 1 → Same p (x * u) 0 → Same p x 0

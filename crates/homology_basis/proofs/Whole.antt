@@ -1,5 +1,5 @@
 -- The classes of all generators that are left, where no boundary is left, are a basis with its cocycles and its contraction.
-use Rattle.std.proofs.Common.{◌≡◌, ◌≢◌, ℕ, ◌+◌, ◌*◌, ◌<◌, ◌≤◌, ◌==◌, if◌then◌else◌, sym, ap, ◌∙◌, arith, ⊎_elim, List, [], ◌∷◌, length, get_or, map, subst}
+use Rattle.std.proofs.Common.{◌≡◌, ◌≢◌, ℕ, ◌+◌, ◌*◌, ◌<◌, ◌≤◌, ◌==◌, if◌then◌else◌, sym, ap, ◌∙◌, arith, ⊎_elim, List, [], ◌∷◌, length, get_or, map, Bool, true, refl, subst}
 use Rattle.std.proofs.lemmas.Bool.{cases_lt}
 use Rattle.std.proofs.lemmas.List.{length-map}
 use Rattle.std.proofs.lemmas.List as lists
@@ -13,24 +13,24 @@ use Rattle.chains.proofs.Numbered.{is_boundary_operator}
 use Rattle.algebraic_reduction.specs.Reduction.{single, Step, IsUnpaired}
 use Rattle.algebraic_reduction.specs.Laws.{AreStepsOf, IsReduction, IsLeft, NothingLeft, include_of, project_of, homotopy_of}
 use Rattle.algebraic_reduction.proofs.LeftBasis.{left_generators}
-use Rattle.homology_basis.specs.Bases.{BasisOfLog, in_degree, BeginsWithOne, AreDualCocycles, IsContraction, IsBasisWithContraction, AreInclusions}
+use Rattle.homology_basis.specs.Bases.{BasisOfLog, in_degree, BeginsWithOne, AreDualCocycles, IsContraction, IsBasisByCycles, IsBasisWithContraction, AreInclusions}
 use Rattle.homology_basis.specs.Classes.{ClassOf, IsClass, AreClassesBelow, AreClasses, cycles_of, cocycles_of}
 use Rattle.homology_basis.proofs.Scaled.{scaled_basis}
 use Rattle.homology_basis.proofs.Dual.{is_cochain, product_cycle, product_boundary}
-use Rattle.homology_basis.proofs.LeftOnes.{single_chain}
+use Rattle.algebraic_reduction.proofs.Singles.{single_chain}
 use Rattle.homology_basis.proofs.Contracting.{contracts}
 
 -- u and a are the numbers of a class
-record Factors (p : ℕ) (K : ChainComplex) (ss : List Step) (c : ClassOf) (u a : ℕ) : Type 0 where
+record Factors (p : ℕ) (K : ChainComplex) (ss : List Step) (wanted : Bool) (c : ClassOf) (u a : ℕ) : Type 0 where
   pub inverse : Same p (u * a) 1
   pub cycle : (g : ℕ) → Same p (coefficient c.cycle g) (u * include_of p K ss (single c.generator) g)
-  pub cocycle : (g : ℕ) → g < length K.boundaries → Same p (coefficient c.cocycle g) (a * project_of p K ss (single g) c.generator)
+  pub cocycle : wanted ≡ true → (g : ℕ) → g < length K.boundaries → Same p (coefficient c.cocycle g) (a * project_of p K ss (single g) c.generator)
 
 -- a class that is read past the end of a list
 abbrev pub no_class : ClassOf
 no_class = record { generator = 0; cycle = []; cocycle = [] }
 
-module _ (p k : ℕ) (K : ChainComplex) (ss : List Step) (two : 2 ≤ p) (cx : IsComplex p K) (r : IsReduction p K ss) (done : NothingLeft p K ss) (cs : List ClassOf) (w : AreClassesBelow p K ss (length K.boundaries) k cs) where
+module _ (p k : ℕ) (K : ChainComplex) (ss : List Step) (wanted : Bool) (two : 2 ≤ p) (cx : IsComplex p K) (r : IsReduction p K ss) (done : NothingLeft p K ss) (cs : List ClassOf) (w : AreClassesBelow p K ss wanted (length K.boundaries) k cs) where
   abbrev pub class : ℕ → ClassOf
   class i = get_or cs i no_class
 
@@ -61,7 +61,7 @@ module _ (p k : ℕ) (K : ChainComplex) (ss : List Step) (two : 2 ≤ p) (cx : I
     all = λ g l e u. w.all g no_class l l e u;
   }
 
-  picked : (i : ℕ) → (u : ℕ) × (a : ℕ) × (i < length cs → Factors p K ss (class i) u a)
+  picked : (i : ℕ) → (u : ℕ) × (a : ℕ) × (i < length cs → Factors p K ss wanted (class i) u a)
   picked i = ⊎_elim
       (λ q. let e = w.each i no_class q in (e.multiple, e.first, λ _. record { inverse = e.inverse; cycle = e.cycle; cocycle = e.cocycle }))
       (λ l. (0, 0, λ q. absurd (omega arith)))
@@ -73,7 +73,7 @@ module _ (p k : ℕ) (K : ChainComplex) (ss : List Step) (two : 2 ≤ p) (cx : I
   abbrev a : ℕ → ℕ
   a i = (picked i).1
 
-  factors : (i : ℕ) → i < length cs → Factors p K ss (class i) (u i) (a i)
+  factors : (i : ℕ) → i < length cs → Factors p K ss wanted (class i) (u i) (a i)
   factors i q = (picked i).2 q
 
   cycle_at : (i : ℕ) → i < length cs → get_or cycles i [] ≡ (class i).cycle
@@ -106,26 +106,26 @@ module _ (p k : ℕ) (K : ChainComplex) (ss : List Step) (two : 2 ≤ p) (cx : I
   pub first : (j : ℕ) → j < length cycles → BeginsWithOne (get_or cycles j [])
   first j q = subst BeginsWithOne (sym (cycle_at j (inner j q))) (w.each j no_class (inner j q)).begins
 
-  pub dual : AreDualCocycles p K k cycles cocycles
-  dual = record {
+  pub dual : wanted ≡ true → AreDualCocycles p K k cycles cocycles
+  dual on = record {
     count = length-map cs (λ (c : ClassOf). c.cocycle) ∙ sym (length-map cs (λ (c : ClassOf). c.cycle));
     cochains = λ i q. let l = inner_co i q in let e = w.each i no_class l in
-        subst (λ (c : List (ℕ × ℕ)). IsChain p (system K) k (coefficient c)) (sym (cocycle_at i l)) (is_cochain p k (length cs) K ss at two cx r done left (class i).cocycle i (a i) l (factors i l).cocycle e.cocycle_past);
+        subst (λ (c : List (ℕ × ℕ)). IsChain p (system K) k (coefficient c)) (sym (cocycle_at i l)) (is_cochain p k (length cs) K ss at two cx r done left (class i).cocycle i (a i) l ((factors i l).cocycle on) (e.cocycle_past on));
     dual = λ i j q q'. let l = inner_co i q in let l' = inner j q' in let e = w.each i no_class l in
         subst (λ (c : List (ℕ × ℕ)). Same p (product c (get_or cycles j [])) (if i == j then 1 else 0)) (sym (cocycle_at i l))
         (subst (λ (z : List (ℕ × ℕ)). Same p (product (class i).cocycle z) (if i == j then 1 else 0)) (sym (cycle_at j l'))
-        (product_cycle p k (length cs) K ss at two cx r done left (class i).cocycle (class j).cycle i j (a i) (u j) l l' e.cocycle_normal (factors i l).cocycle e.cocycle_past (factors j l').cycle (λ s. subst (λ (v : ℕ). Same p (u v * a i) 1) s (factors i l).inverse)));
+        (product_cycle p k (length cs) K ss at two cx r done left (class i).cocycle (class j).cycle i j (a i) (u j) l l' (e.cocycle_normal on) ((factors i l).cocycle on) (e.cocycle_past on) (factors j l').cycle (λ s. subst (λ (v : ℕ). Same p (u v * a i) 1) s (factors i l).inverse)));
     closed = λ i s q b. let l = inner_co i q in let e = w.each i no_class l in
         subst (λ (c : List (ℕ × ℕ)). Same p (product c (get_or K.boundaries s [])) 0) (sym (cocycle_at i l))
-        (product_boundary p k (length cs) K ss at two cx r done left (class i).cocycle i (a i) s b e.cocycle_normal (factors i l).cocycle e.cocycle_past);
+        (product_boundary p k (length cs) K ss at two cx r done left (class i).cocycle i (a i) s b (e.cocycle_normal on) ((factors i l).cocycle on) (e.cocycle_past on));
   }
 
-  pub identity : (s g : ℕ) → s < length K.boundaries → get_or K.degrees s 0 ≡ k
+  pub identity : wanted ≡ true → (s g : ℕ) → s < length K.boundaries → get_or K.degrees s 0 ≡ k
       → Same p (combination (length cycles) (λ i. nth_chain cocycles i s) (nth_chain cycles) g + (boundary K.boundaries (homotopy_of p K ss (single s)) g + total (length K.boundaries) (λ t. incidence K.boundaries s t * homotopy_of p K ss (single t) g))) (single s g)
-  identity s g q e = subst (λ (m : ℕ). Same p (combination m (λ i. nth_chain cocycles i s) (nth_chain cycles) g + (boundary K.boundaries (homotopy_of p K ss (single s)) g + total (length K.boundaries) (λ t. incidence K.boundaries s t * homotopy_of p K ss (single t) g))) (single s g)) (sym (length-map cs (λ (c : ClassOf). c.cycle)))
+  identity on s g q e = subst (λ (m : ℕ). Same p (combination m (λ i. nth_chain cocycles i s) (nth_chain cycles) g + (boundary K.boundaries (homotopy_of p K ss (single s)) g + total (length K.boundaries) (λ t. incidence K.boundaries s t * homotopy_of p K ss (single t) g))) (single s g)) (sym (length-map cs (λ (c : ClassOf). c.cycle)))
       (contracts p k (length cs) K ss at cx r left (nth_chain cycles) (nth_chain cocycles) u a s g q e
       (λ i l. (factors i l).inverse) (λ i l. multiple i l g)
-      (λ i l. subst (λ (c : List (ℕ × ℕ)). Same p (coefficient c s) (a i * project_of p K ss (single s) (at i))) (sym (cocycle_at i l)) ((factors i l).cocycle s q)))
+      (λ i l. subst (λ (c : List (ℕ × ℕ)). Same p (coefficient c s) (a i * project_of p K ss (single s) (at i))) (sym (cocycle_at i l)) ((factors i l).cocycle on s q)))
 
   pub inclusions : AreInclusions p K ss k cycles
   inclusions = record {
@@ -147,29 +147,41 @@ cocycles_in css k = maths.get_or-map (λ (cs : List ClassOf). map (λ c. c.cocyc
 abbrev pub seen : ChainComplex → List Step → List (List ClassOf) → BasisOfLog
 seen K ss css = record { log = record { complex = K; steps = ss }; cycles = cycles_of css; cocycles = cocycles_of css }
 
-module _ (p : ℕ) (K : ChainComplex) (ss : List Step) (two : 2 ≤ p) (cx : IsComplex p K) (r : IsReduction p K ss) (done : NothingLeft p K ss) (css : List (List ClassOf)) (w : AreClasses p K ss css) where
+module _ (p : ℕ) (K : ChainComplex) (ss : List Step) (wanted : Bool) (two : 2 ≤ p) (cx : IsComplex p K) (r : IsReduction p K ss) (done : NothingLeft p K ss) (css : List (List ClassOf)) (w : AreClasses p K ss wanted css) where
   inclusions_of : (k : ℕ) → AreInclusions p K ss k (in_degree (cycles_of css) k)
-  inclusions_of k = subst (AreInclusions p K ss k) (sym (cycles_in css k)) (inclusions p k K ss two cx r done (in_degree css k) (w k))
+  inclusions_of k = subst (AreInclusions p K ss k) (sym (cycles_in css k)) (inclusions p k K ss wanted two cx r done (in_degree css k) (w k))
 
-  contraction : IsContraction p K (cycles_of css) (cocycles_of css) (λ g. homotopy_of p K ss (single g))
-  contraction = record {
+  contraction : wanted ≡ true → IsContraction p K (cycles_of css) (cocycles_of css) (λ g. homotopy_of p K ss (single g))
+  contraction on = record {
     raises = λ s q. r.homotopy_degree (get_or K.degrees s 0) (single s) (single_chain p K s q);
     identity = λ s k q e g.
         subst (λ (zs : List (List (ℕ × ℕ))). Same p (combination (length zs) (λ i. nth_chain (in_degree (cocycles_of css) k) i s) (nth_chain zs) g + (boundary K.boundaries (homotopy_of p K ss (single s)) g + total (length K.boundaries) (λ t. incidence K.boundaries s t * homotopy_of p K ss (single t) g))) (single s g)) (sym (cycles_in css k))
         (subst (λ (cs : List (List (ℕ × ℕ))). Same p (combination (length (map (λ c. c.cycle) (in_degree css k))) (λ i. nth_chain cs i s) (nth_chain (map (λ c. c.cycle) (in_degree css k))) g + (boundary K.boundaries (homotopy_of p K ss (single s)) g + total (length K.boundaries) (λ t. incidence K.boundaries s t * homotopy_of p K ss (single t) g))) (single s g)) (sym (cocycles_in css k))
-        (identity p k K ss two cx r done (in_degree css k) (w k) s g q e));
+        (identity p k K ss wanted two cx r done (in_degree css k) (w k) on s g q e));
   }
 
-  pub whole : IsBasisWithContraction p (seen K ss css)
-  whole = record {
+  pub by_cycles : IsBasisByCycles p (record { log = record { complex = K; steps = ss }; cycles = cycles_of css })
+  by_cycles = record {
     complex = cx;
     reduction = r;
     nothing_left = done;
-    cycles = λ k. subst (IsBasisOf p K k) (sym (cycles_in css k)) (basis p k K ss two cx r done (in_degree css k) (w k));
-    few = λ k. subst (λ (zs : List (List (ℕ × ℕ))). length zs ≤ length K.boundaries) (sym (cycles_in css k)) (few p k K ss two cx r done (in_degree css k) (w k));
-    normal = λ k. subst (λ (zs : List (List (ℕ × ℕ))). (j : ℕ) → j < length zs → IsNormal p (get_or zs j [])) (sym (cycles_in css k)) (normal p k K ss two cx r done (in_degree css k) (w k));
-    first = λ k. subst (λ (zs : List (List (ℕ × ℕ))). (j : ℕ) → j < length zs → BeginsWithOne (get_or zs j [])) (sym (cycles_in css k)) (first p k K ss two cx r done (in_degree css k) (w k));
-    cocycles = λ k. subst (λ (zs : List (List (ℕ × ℕ))). AreDualCocycles p K k zs (in_degree (cocycles_of css) k)) (sym (cycles_in css k)) (subst (AreDualCocycles p K k (map (λ c. c.cycle) (in_degree css k))) (sym (cocycles_in css k)) (dual p k K ss two cx r done (in_degree css k) (w k)));
+    cycles = λ k. subst (IsBasisOf p K k) (sym (cycles_in css k)) (basis p k K ss wanted two cx r done (in_degree css k) (w k));
+    few = λ k. subst (λ (zs : List (List (ℕ × ℕ))). length zs ≤ length K.boundaries) (sym (cycles_in css k)) (few p k K ss wanted two cx r done (in_degree css k) (w k));
+    normal = λ k. subst (λ (zs : List (List (ℕ × ℕ))). (j : ℕ) → j < length zs → IsNormal p (get_or zs j [])) (sym (cycles_in css k)) (normal p k K ss wanted two cx r done (in_degree css k) (w k));
+    first = λ k. subst (λ (zs : List (List (ℕ × ℕ))). (j : ℕ) → j < length zs → BeginsWithOne (get_or zs j [])) (sym (cycles_in css k)) (first p k K ss wanted two cx r done (in_degree css k) (w k));
     inclusions = inclusions_of;
-    contraction = contraction;
+  }
+
+  pub whole : wanted ≡ true → IsBasisWithContraction p (seen K ss css)
+  whole on = record {
+    complex = cx;
+    reduction = r;
+    nothing_left = done;
+    cycles = by_cycles.cycles;
+    few = by_cycles.few;
+    normal = by_cycles.normal;
+    first = by_cycles.first;
+    inclusions = by_cycles.inclusions;
+    cocycles = λ k. subst (λ (zs : List (List (ℕ × ℕ))). AreDualCocycles p K k zs (in_degree (cocycles_of css) k)) (sym (cycles_in css k)) (subst (AreDualCocycles p K k (map (λ c. c.cycle) (in_degree css k))) (sym (cocycles_in css k)) (dual p k K ss wanted two cx r done (in_degree css k) (w k) on));
+    contraction = contraction on;
   }

@@ -18,6 +18,11 @@ pub record BasisOfLog : Type 0 where
   pub cycles : List (List (List (ℕ × ℕ)))
   pub cocycles : List (List (List (ℕ × ℕ)))
 
+-- what a basis without cocycles is seen as: the log from which it was made, and the cycles by degree
+pub record CyclesOfLog : Type 0 where
+  pub log : Reduced
+  pub cycles : List (List (List (ℕ × ℕ)))
+
 -- the homotopy h that it stands for, which gives each generator a chain, by its coefficients
 abbrev pub homotopy_in : ℕ → BasisOfLog → ℕ → ℕ → ℕ
 homotopy_in p b g = homotopy_of p b.log.complex b.log.steps (single g)
@@ -57,6 +62,18 @@ pub record AreInclusions (p : ℕ) (K : ChainComplex) (ss : List Step) (k : ℕ)
   pub multiple : ℕ → ℕ
   pub scaled : (i : ℕ) → i < length zs → (g : ℕ) → Same p (nth_chain zs i g) (multiple i * include_of p K ss (single (at i)) g)
   pub first : (i : ℕ) → i < length zs → BeginsWithOne (slice_index_or zs i [])
+
+-- in each degree the cycles are a basis, and each begins with the coefficient 1; the steps of the log reduce its complex until
+-- no boundary is left, and the cycles are the inclusions of the generators that they leave
+pub record IsBasisByCycles (p : ℕ) (b : CyclesOfLog) : Type 0 where
+  pub complex : IsComplex p b.log.complex
+  pub reduction : IsReduction p b.log.complex b.log.steps
+  pub nothing_left : NothingLeft p b.log.complex b.log.steps
+  pub cycles : (k : ℕ) → IsBasisOf p b.log.complex k (in_degree b.cycles k)
+  pub few : (k : ℕ) → length (in_degree b.cycles k) ≤ length b.log.complex.boundaries
+  pub normal : (k j : ℕ) → j < length (in_degree b.cycles k) → IsNormal p (slice_index_or (in_degree b.cycles k) j [])
+  pub first : (k j : ℕ) → j < length (in_degree b.cycles k) → BeginsWithOne (slice_index_or (in_degree b.cycles k) j [])
+  pub inclusions : (k : ℕ) → AreInclusions p b.log.complex b.log.steps k (in_degree b.cycles k)
 
 -- in each degree the cycles are a basis, each begins with the coefficient 1, the cocycles are dual to them, and h contracts
 -- the complex to them; the steps of the log reduce its complex until no boundary is left, and the cycles are the inclusions of

@@ -27,9 +27,14 @@ impl<const P: u16> Model for Classes<P> {
 }
 
 impl<const P: u16> Classes<P> {
-    /// The classes of all generators that the steps of a log leave.
-    pub(crate) fn of(alloc: Global, field: Field<P>, log: &Log<P>) -> Result<Classes<P>, AllocError>
-        ensures classes { IfOk result (AreClasses P log.now.complex log.now.steps) }
+    /// The classes of all generators that the steps of a log leave, with cocycles where these are wanted.
+    pub(crate) fn of(
+        alloc: Global,
+        field: Field<P>,
+        log: &Log<P>,
+        wanted: bool,
+    ) -> Result<Classes<P>, AllocError>
+        ensures classes { IfOk result (AreClasses P log.now.complex log.now.steps wanted) }
         ensures complex { IsComplex P log.now.complex }
         ensures reduction { IsReduction P log.now.complex log.now.steps }
     {
@@ -41,7 +46,7 @@ impl<const P: u16> Classes<P> {
         };
         for generator in 0..complex.len() {
             if log.alive(generator) {
-                let class = Class::of(alloc, field, log, generator)?;
+                let class = Class::of(alloc, field, log, generator, wanted)?;
                 classes.insert(alloc, complex.degree(generator), class)?;
             }
         }

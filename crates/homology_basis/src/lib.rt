@@ -4,9 +4,11 @@
 mod bases;
 mod class;
 mod classes;
+mod cycles;
 mod making;
 mod prepared;
 
 pub use bases::Basis;
-pub use making::basis;
+pub use cycles::CycleBasis;
+pub use making::{basis, cycle_basis};
 pub use prepared::{Prepared, prepare};

@@ -6,8 +6,8 @@ ghost use Rattle.cell_complex.specs.Numbering.{IsRelativeComplex};
 
 use algebraic_reduction::Log;
 use cell_complex::{CELLS, CellsFault, Numbered, complex_of, relative};
-use field_mod::Field;
 use cube_sets::CubeSet;
+use field_mod::Field;
 use std::alloc::Global;
 
 /// The relative cells of a pair, and a log of their complex in which no boundary is left.

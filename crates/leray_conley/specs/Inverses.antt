@@ -10,8 +10,10 @@ IsInverse p d a b = AreSame p d d (product d a b) identity × AreSame p d d (pro
 
 -- a square matrix has an inverse, or kills a vector that is not 0
 abbrev pub InverseOrKernel : Type 0
-InverseOrKernel = (p d : ℕ) (a : ℕ → ℕ → ℕ) → IsField p → ((b : ℕ → ℕ → ℕ) × IsInverse p d a b) ⊎ ((v : ℕ → ℕ) × IsKilled p d d a v)
+InverseOrKernel = (p d : ℕ) (a : ℕ → ℕ → ℕ) → IsField p → ((b : ℕ → ℕ → ℕ) × IsInverse p d a b)
+    ⊎ ((v : ℕ → ℕ) × IsKilled p d d a v)
 
 -- an inverse on one side is one on the other
 abbrev pub RightInversesAreLeft : Type 0
-RightInversesAreLeft = (p d : ℕ) (a b : ℕ → ℕ → ℕ) → IsField p → AreSame p d d (product d a b) identity → AreSame p d d (product d b a) identity
+RightInversesAreLeft = (p d : ℕ) (a b : ℕ → ℕ → ℕ) → IsField p
+    → AreSame p d d (product d a b) identity → AreSame p d d (product d b a) identity

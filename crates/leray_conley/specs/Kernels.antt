@@ -16,7 +16,8 @@ pub record IsKilled (p rows columns : ℕ) (a : ℕ → ℕ → ℕ) (v : ℕ �
 
 -- no vector but 0 is in the kernel of a
 abbrev pub IsInjective : ℕ → ℕ → ℕ → (ℕ → ℕ → ℕ) → Type 0
-IsInjective p rows columns a = (v : ℕ → ℕ) → IsInKernel p rows columns a v → (j : ℕ) → j < columns → Same p (v j) 0
+IsInjective p rows columns a = (v : ℕ → ℕ) → IsInKernel p rows columns a v → (j : ℕ) → j < columns
+    → Same p (v j) 0
 
 -- .. as a list of numbers below p
 pub record IsKernelVector (p rows columns : ℕ) (a : ℕ → ℕ → ℕ) (v : List ℕ) : Type 0 where

@@ -1,5 +1,5 @@
--- Matrices modulo p as functions: the entry in row i and column j of a is a i j, and the sizes stand beside.
--- Entries are not reduced: p enters where two matrices are compared.
+-- Matrices modulo p as functions: the entry in row i and column j of a is a i j, and the sizes
+-- stand beside. Entries are not reduced: p enters where two matrices are compared.
 use Rattle.std.specs.Prelude.{ℕ, zero, suc, ◌*◌, ◌<◌, if◌then◌else◌, ◌==◌}
 use Rattle.field_mod.specs.Sums.{total}
 use Rattle.field_mod.specs.Modular.{Same}

@@ -24,20 +24,24 @@ RanksExist = (p rows columns : ℕ) (a : ℕ → ℕ → ℕ) → IsField p → 
 
 -- .. and one alone
 abbrev pub RanksAgree : Type 0
-RanksAgree = (p rows columns : ℕ) (a : ℕ → ℕ → ℕ) (r s : ℕ) → IsField p → IsRank p rows columns a r → IsRank p rows columns a s → r ≡ s
+RanksAgree = (p rows columns : ℕ) (a : ℕ → ℕ → ℕ) (r s : ℕ) → IsField p → IsRank p rows columns a r
+    → IsRank p rows columns a s → r ≡ s
 
 -- rows and columns give the same rank
 abbrev pub RanksOfTransposesAgree : Type 0
-RanksOfTransposesAgree = (p rows columns : ℕ) (a : ℕ → ℕ → ℕ) (r : ℕ) → IsField p → IsRank p rows columns a r → IsRank p columns rows (transpose a) r
+RanksOfTransposesAgree = (p rows columns : ℕ) (a : ℕ → ℕ → ℕ) (r : ℕ) → IsField p
+    → IsRank p rows columns a r → IsRank p columns rows (transpose a) r
 
 -- an invertible factor on the left leaves the rank
 abbrev pub LeftFactorsKeepRanks : Type 0
 LeftFactorsKeepRanks =
-    (p rows columns : ℕ) (s t a : ℕ → ℕ → ℕ) (r : ℕ) → IsField p → AreSame p rows rows (product rows s t) identity
+    (p rows columns : ℕ) (s t a : ℕ → ℕ → ℕ) (r : ℕ) → IsField p
+    → AreSame p rows rows (product rows s t) identity
     → IsRank p rows columns a r → IsRank p rows columns (product rows s a) r
 
 -- .. and so does one on the right
 abbrev pub RightFactorsKeepRanks : Type 0
 RightFactorsKeepRanks =
-    (p rows columns : ℕ) (s t a : ℕ → ℕ → ℕ) (r : ℕ) → IsField p → AreSame p columns columns (product columns s t) identity
+    (p rows columns : ℕ) (s t a : ℕ → ℕ → ℕ) (r : ℕ) → IsField p
+    → AreSame p columns columns (product columns s t) identity
     → IsRank p rows columns a r → IsRank p rows columns (product columns a s) r

@@ -1,5 +1,6 @@
--- The Leray splitting of a square matrix a of size d: the space is the image of a ^ d beside its kernel, and a is
--- invertible on the image (Mrozek, Leray functor and cohomological Conley index for discrete dynamical systems, 1990).
+-- The Leray splitting of a square matrix a of size d: the space is the image of a ^ d beside its
+-- kernel, and a is invertible on the image (Mrozek, Leray functor and cohomological Conley index
+-- for discrete dynamical systems, 1990).
 use Rattle.std.specs.Prelude.{◌≡◌, ℕ, ◌+◌, ◌-◌, ◌<◌, ◌≤◌, if◌then◌else◌, nat_lt}
 use Rattle.field_mod.specs.Modular.{Same, IsField}
 use Rattle.leray_conley.specs.Products.{product, identity, none, power, AreSame}
@@ -29,14 +30,16 @@ pub record IsLeraySplitting (p d : ℕ) (a : ℕ → ℕ → ℕ) (s : Splitting
   pub reduces : AreSame p d s.rank (product d a s.image) (product s.rank s.image s.reduced)
   pub inverts : AreSame p s.rank s.rank (product s.rank s.reduced s.reduced_inverse) identity
 
--- image, with r columns, and kernel, with s, split the space, a maps the image to itself and no vector of it but 0 to 0
+-- image, with r columns, and kernel, with s, split the space, a maps the image to itself and no
+-- vector of it but 0 to 0
 pub record IsSplit (p d r s : ℕ) (a image kernel : ℕ → ℕ → ℕ) : Type 0 where
   pub sizes : r + s ≡ d
   pub unkilled : (v : ℕ → ℕ) → IsKilled p d d (beside r image kernel) v → ⊥
   pub dies : AreSame p d s (product d (power d a d) kernel) none
   pub map : ℕ → ℕ → ℕ
   pub carried : AreSame p d r (product d a image) (product r image map)
-  pub faithful : (x : ℕ → ℕ) → AreSame p d 1 (product d a (product r image (λ i j. x i))) none → (k : ℕ) → k < r → Same p (x k) 0
+  pub faithful : (x : ℕ → ℕ) → AreSame p d 1 (product d a (product r image (λ i j. x i))) none
+      → (k : ℕ) → k < r → Same p (x k) 0
 
 -- each square matrix has a splitting
 abbrev pub SplittingsExist : Type 0

@@ -31,10 +31,12 @@ fn right_block<const P: u16>(
 ) -> Result<Matrix<P>, AllocError>
     requires bound { size * size ≤ 16777216 }
     requires form { HasEchelon P (size + size) echelon.now.rows.items echelon.now.pivots.items }
-    requires pivots { (j : ℕ) → j < size → (k : ℕ) × (k < length echelon.now.rows.items) × (slice_index echelon.now.pivots.items k ≡ j) }
+    requires pivots { (j : ℕ) → j < size → (k : ℕ) × (k < length echelon.now.rows.items)
+        × (slice_index echelon.now.pivots.items k ≡ j) }
     ensures rows { IfOk result (λ m. m.rows ≡ size) }
     ensures columns { IfOk result (λ m. m.columns ≡ size) }
-    ensures block { IfOk result (λ m. IsRightBlock size (length echelon.now.rows.items) (cell echelon.now.rows.items)
+    ensures block { IfOk result (λ m. IsRightBlock size (length echelon.now.rows.items)
+        (cell echelon.now.rows.items)
         (slice_index echelon.now.pivots.items) (entry m) size) }
 {
     let width = size as usize;
@@ -60,8 +62,8 @@ impl From<AllocError> for InverseFault {
 }
 
 impl<const P: u16> Matrix<P> {
-    /// The inverse of a square matrix; `Singular` exactly where it has none, with a vector that is not 0 and that it
-    /// sends to 0.
+    /// The inverse of a square matrix; `Singular` exactly where it has none, with a vector that is
+    /// not 0 and that it sends to 0.
     pub fn inverse(&self, alloc: Global, f: Field<P>) -> Result<Matrix<P>, InverseFault>
         requires square { self.now.rows ≡ self.now.columns }
         ensures rows { IfOk result (λ m. m.rows ≡ self.now.rows) }
@@ -80,7 +82,8 @@ impl<const P: u16> Matrix<P> {
     /// The inverse of a square matrix that sends no vector but 0 to 0.
     pub(crate) fn known_inverse(&self, alloc: Global, f: Field<P>) -> Result<Matrix<P>, AllocError>
         requires square { self.now.rows ≡ self.now.columns }
-        requires unkilled { (v : ℕ → ℕ) → IsKilled P self.now.rows self.now.rows (entry self.now) v → ⊥ }
+        requires unkilled { (v : ℕ → ℕ) → IsKilled P self.now.rows self.now.rows (entry self.now) v
+            → ⊥ }
         ensures rows { IfOk result (λ m. m.rows ≡ self.now.rows) }
         ensures columns { IfOk result (λ m. m.columns ≡ self.now.rows) }
         ensures inverse { IfOk result (λ m. IsInverse P self.now.rows (entry self.now) (entry m)) }

@@ -35,11 +35,14 @@ impl<const P: u16> Matrix<P> {
         Ok(Some(echelon.kernel_column(alloc, f, columns, free[0])?))
     }
 
-    /// The same for the transposed matrix: a vector that is not 0 and whose product with each column is 0.
+    /// The same for the transposed matrix: a vector that is not 0 and whose product with each
+    /// column is 0.
     pub fn left_vector(&self, alloc: Global, f: Field<P>) -> Result<Option<Vec<u16>>, AllocError>
         ensures { IfOk result (λ o. MatchOption o
-            ((v : ℕ → ℕ) → IsKilled P self.now.columns self.now.rows (transpose (entry self.now)) v → ⊥)
-            (λ v. IsKernelVector P self.now.columns self.now.rows (transpose (entry self.now)) v.items)) }
+            ((v : ℕ → ℕ) → IsKilled P self.now.columns self.now.rows (transpose (entry self.now)) v
+            → ⊥)
+            (λ v. IsKernelVector P self.now.columns self.now.rows (transpose (entry self.now))
+            v.items)) }
     {
         self.transposed(alloc)?.kernel_vector(alloc, f)
     }

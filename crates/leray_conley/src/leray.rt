@@ -12,9 +12,9 @@ use crate::matrix::Matrix;
 use field_mod::Field;
 use std::alloc::{AllocError, Global};
 
-/// The Leray splitting of a square matrix of size d: the columns of `image` and of `kernel` are together a basis of the
-/// space, the power d sends those of `kernel` to 0, and the matrix maps those of `image` by `reduced`, which is
-/// invertible.
+/// The Leray splitting of a square matrix of size d: the columns of `image` and of `kernel` are
+/// together a basis of the space, the power d sends those of `kernel` to 0, and the matrix maps
+/// those of `image` by `reduced`, which is invertible.
 #[derive(Drop)]
 pub struct Leray<const P: u16> {
     /// A basis of the image, of d rows and r columns.
@@ -50,8 +50,10 @@ fn kernel_rows<const P: u16>(
     requires bound { length free.now * size ≤ 16777216 }
     ensures rows { IfOk result (λ m. m.rows ≡ length free.now) }
     ensures columns { IfOk result (λ m. m.columns ≡ size) }
-    ensures value { IfOk result (λ m. (t l : ℕ) → t < length free.now → l < size → Same P (entry m t l)
-        (kernel_matrix P (length echelon.now.rows.items) (cell echelon.now.rows.items) (slice_index echelon.now.pivots.items) l (slice_index free.now t))) }
+    ensures value { IfOk result (λ m. (t l : ℕ) → t < length free.now → l < size
+        → Same P (entry m t l)
+        (kernel_matrix P (length echelon.now.rows.items) (cell echelon.now.rows.items)
+        (slice_index echelon.now.pivots.items) l (slice_index free.now t))) }
 {
     let width = size as usize;
     let mut entries = Vec::new(alloc);
@@ -85,7 +87,8 @@ impl<const P: u16> Matrix<P> {
         ensures bound { IfOk result (λ _. self.now.rows * self.now.rows ≤ 16777216) }
         ensures image_rows { IfOk result (λ s. s.image.rows ≡ self.now.rows) }
         ensures kernel_rows { IfOk result (λ s. s.kernel.rows ≡ self.now.rows) }
-        ensures split { IfOk result (λ s. IsSplit P self.now.rows s.image.columns s.kernel.columns (entry self.now) (entry s.image) (entry s.kernel)) }
+        ensures split { IfOk result (λ s. IsSplit P self.now.rows s.image.columns s.kernel.columns
+            (entry self.now) (entry s.image) (entry s.kernel)) }
     {
         let size = self.rows();
         let mut power = self.top_rows(alloc, size)?;
@@ -102,7 +105,8 @@ impl<const P: u16> Matrix<P> {
     pub fn leray(&self, alloc: Global, f: Field<P>) -> Result<Leray<P>, AllocError>
         requires square { self.now.rows ≡ self.now.columns }
         ensures sizes { IfOk result (HasLeraySizes P self.now.rows) }
-        ensures splitting { IfOk result (λ l. IsLeraySplitting P self.now.rows (entry self.now) (splitting_of l)) }
+        ensures splitting { IfOk result (λ l. IsLeraySplitting P self.now.rows (entry self.now)
+            (splitting_of l)) }
     {
         let Parts { image, kernel } = self.parts(alloc, f)?;
         let split = image.side_by_side(alloc, &kernel)?;

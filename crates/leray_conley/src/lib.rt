@@ -20,6 +20,3 @@ pub use laws::{
 };
 pub use leray::Leray;
 pub use matrix::Matrix;
-
-#[cfg(test)]
-mod tests;

@@ -6,8 +6,9 @@ ghost use Rattle.leray_conley.specs.Products.{trace};
 use field_mod::Field;
 use std::marker::Model;
 
-/// A matrix over the field of `P` elements, seen as a number of rows, a number of columns and the list of its entries
-/// by rows. The entries are below `P`, and there are at most 16,777,216 of them.
+/// A matrix over the field of `P` elements, seen as a number of rows, a number of columns and the
+/// list of its entries by rows. The entries are below `P`, and there are at most 16,777,216 of
+/// them.
 #[derive(Drop)]
 pub struct Matrix<const P: u16> {
     pub(crate) rows: u32,
@@ -22,7 +23,8 @@ impl<const P: u16> Model for Matrix<P> {
 
     ghost view = { λ m. record { rows = m.rows; columns = m.columns; entries = m.entries.items } };
 
-    ghost invariant = { λ m. IsTable P (record { rows = m.rows; columns = m.columns; entries = m.entries.items }) };
+    ghost invariant = { λ m. IsTable P (record
+        { rows = m.rows; columns = m.columns; entries = m.entries.items }) };
 }
 
 impl<const P: u16> Matrix<P> {
@@ -86,7 +88,8 @@ impl<const P: u16> Matrix<P> {
         requires { i < self.now.rows }
         ensures len { length result.now ≡ self.now.columns }
         ensures bound { length result.now ≤ 16777216 }
-        ensures value { (j : ℕ) → j < self.now.columns → slice_index result.now j ≡ entry self.now i j }
+        ensures value { (j : ℕ) → j < self.now.columns → slice_index result.now j
+            ≡ entry self.now i j }
         ensures below { (j : ℕ) → j < self.now.columns → slice_index result.now j < P }
     {
         let start = (i * self.columns) as usize;

@@ -23,9 +23,11 @@ impl<const P: u16> Matrix<P> {
         alloc: Global,
         places: &[usize],
     ) -> Result<Matrix<P>, AllocError>
-        requires within { (k : ℕ) → k < length places.now → slice_index places.now k < self.now.columns }
+        requires within { (k : ℕ) → k < length places.now → slice_index places.now k
+            < self.now.columns }
         requires few { length places.now ≤ self.now.columns }
-        ensures { IfOk result (HasEntries self.now.rows (length places.now) (λ i k. entry self.now i (slice_index places.now k))) }
+        ensures { IfOk result (HasEntries self.now.rows (length places.now)
+            (λ i k. entry self.now i (slice_index places.now k))) }
     {
         let columns = self.columns();
         let width = places.len() as u32;
@@ -61,7 +63,8 @@ impl<const P: u16> Matrix<P> {
         requires rows { self.now.rows ≡ other.now.rows }
         requires wide { self.now.columns + other.now.columns < 2 ^ 32 }
         requires bound { self.now.rows * (self.now.columns + other.now.columns) ≤ 16777216 }
-        ensures { IfOk result (HasEntries self.now.rows (self.now.columns + other.now.columns) (beside self.now.columns (entry self.now) (entry other.now))) }
+        ensures { IfOk result (HasEntries self.now.rows (self.now.columns + other.now.columns)
+            (beside self.now.columns (entry self.now) (entry other.now))) }
     {
         let columns = self.columns() + other.columns();
         let count = self.rows() * columns;

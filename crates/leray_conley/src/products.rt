@@ -24,7 +24,8 @@ fn dot(a: &[u16], b: &[u16]) -> u64
 impl<const P: u16> Matrix<P> {
     /// The matrix with rows and columns exchanged.
     pub(crate) fn transposed(&self, alloc: Global) -> Result<Matrix<P>, AllocError>
-        ensures { IfOk result (HasEntries self.now.columns self.now.rows (transpose (entry self.now))) }
+        ensures { IfOk result (HasEntries self.now.columns self.now.rows
+            (transpose (entry self.now))) }
     {
         let columns = self.rows();
         let count = self.columns() * columns;
@@ -42,7 +43,8 @@ impl<const P: u16> Matrix<P> {
         requires other_row { j < other.now.rows }
         requires fits { self.now.columns ≡ other.now.columns }
         ensures below { result < P }
-        ensures value { result ≡ product self.now.columns (entry self.now) (transpose (entry other.now)) i j % P }
+        ensures value { result ≡ product self.now.columns (entry self.now)
+            (transpose (entry other.now)) i j % P }
     {
         (dot(self.row(i), other.row(j)) % u64::from(P)) as u16
     }
@@ -53,7 +55,9 @@ impl<const P: u16> Matrix<P> {
         requires fits { self.now.columns ≡ other.now.columns }
         requires bound { self.now.rows * other.now.rows ≤ 16777216 }
         ensures { IfOk result
-            (HasEntries self.now.rows other.now.rows (λ i j. product self.now.columns (entry self.now) (transpose (entry other.now)) i j % P)) }
+            (HasEntries self.now.rows other.now.rows
+            (λ i j. product self.now.columns (entry self.now) (transpose (entry other.now)) i j
+            % P)) }
     {
         let columns = other.rows();
         let count = self.rows() * columns;
@@ -64,8 +68,8 @@ impl<const P: u16> Matrix<P> {
         Ok(Matrix::new(self.rows(), columns, entries))
     }
 
-    /// The product of this matrix and another, which has as many rows as this one has columns; the product has at most
-    /// 16,777,216 entries.
+    /// The product of this matrix and another, which has as many rows as this one has columns; the
+    /// product has at most 16,777,216 entries.
     pub fn times(
         &self,
         alloc: Global,
@@ -75,7 +79,8 @@ impl<const P: u16> Matrix<P> {
         requires fits { self.now.columns ≡ other.now.rows }
         requires bound { self.now.rows * other.now.columns ≤ 16777216 }
         ensures { IfOk result
-            (HasEntries self.now.rows other.now.columns (λ i j. product self.now.columns (entry self.now) (entry other.now) i j % P)) }
+            (HasEntries self.now.rows other.now.columns
+            (λ i j. product self.now.columns (entry self.now) (entry other.now) i j % P)) }
     {
         let turned = other.transposed(alloc)?;
         self.times_transposed(alloc, &turned)

@@ -17,7 +17,8 @@ impl<const P: u16> Matrix<P> {
     fn widened_row(&self, alloc: Global, i: u32, extra: u32) -> Result<Row<P>, AllocError>
         requires prime { 1 < P }
         requires row { i < self.now.rows }
-        ensures { IfOk result (IsRowOf (self.now.columns + extra) (beside self.now.columns (entry self.now) identity i)) }
+        ensures { IfOk result (IsRowOf (self.now.columns + extra)
+            (beside self.now.columns (entry self.now) identity i)) }
     {
         let mut row = Row::of(alloc, self.row(i))?;
         for j in 0..extra {

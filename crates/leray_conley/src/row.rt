@@ -18,14 +18,16 @@ impl<const P: u16> Model for Row<P> {
 
     ghost view = { λ r. r.entries.items };
 
-    ghost invariant = { λ r. (k : ℕ) → k < length r.entries.items → slice_index r.entries.items k < P };
+    ghost invariant = { λ r. (k : ℕ) → k < length r.entries.items → slice_index r.entries.items k
+        < P };
 }
 
 /// Multiplies a row by a number.
 fn multiply<const P: u16>(row: &mut [u16], by: u16)
     requires { 0 < P }
     ensures len { length row.new ≡ length row.old }
-    ensures value { (j : ℕ) → j < length row.old → slice_index row.new j ≡ (by * slice_index row.old j) % P }
+    ensures value { (j : ℕ) → j < length row.old → slice_index row.new j
+        ≡ (by * slice_index row.old j) % P }
 {
     for j in 0..row.len() {
         row[j] = (u32::from(by) * u32::from(row[j]) % u32::from(P)) as u16;
@@ -37,7 +39,8 @@ fn add_multiple<const P: u16>(row: &mut [u16], by: u16, other: &[u16])
     requires prime { 0 < P }
     requires same { length row.old ≡ length other.now }
     ensures len { length row.new ≡ length row.old }
-    ensures value { (j : ℕ) → j < length row.old → slice_index row.new j ≡ (slice_index row.old j + by * slice_index other.now j) % P }
+    ensures value { (j : ℕ) → j < length row.old → slice_index row.new j
+        ≡ (slice_index row.old j + by * slice_index other.now j) % P }
 {
     for j in 0..row.len() {
         let sum = u32::from(row[j]) + u32::from(by) * u32::from(other[j]);
@@ -86,14 +89,16 @@ impl<const P: u16> Row<P> {
         requires { start ≤ length self.now }
         ensures len { length result.now + start ≡ length self.now }
         ensures below { (j : ℕ) → start + j < length self.now → slice_index result.now j < P }
-        ensures value { (j : ℕ) → start + j < length self.now → slice_index result.now j ≡ slice_index self.now (start + j) }
+        ensures value { (j : ℕ) → start + j < length self.now → slice_index result.now j
+            ≡ slice_index self.now (start + j) }
     {
         &self.entries[start..]
     }
 
     /// The place of the first entry that is not 0.
     pub fn leading(&self) -> Option<usize>
-        ensures { MatchOption result ((j : ℕ) → j < length self.now → slice_index self.now j ≡ 0) (IsLeading self.now) }
+        ensures { MatchOption result ((j : ℕ) → j < length self.now → slice_index self.now j ≡ 0)
+            (IsLeading self.now) }
     {
         for j in 0..self.entries.len() {
             if self.entries[j] != 0 {
@@ -107,7 +112,8 @@ impl<const P: u16> Row<P> {
     pub fn scale(&mut self, by: u16)
         requires { 0 < P }
         ensures len { length self.new ≡ length self.old }
-        ensures value { (j : ℕ) → j < length self.old → slice_index self.new j ≡ (by * slice_index self.old j) % P }
+        ensures value { (j : ℕ) → j < length self.old → slice_index self.new j
+            ≡ (by * slice_index self.old j) % P }
     {
         multiply::<P>(&mut self.entries, by);
     }
@@ -117,7 +123,8 @@ impl<const P: u16> Row<P> {
         requires prime { 0 < P }
         requires same { length self.old ≡ length other.now }
         ensures len { length self.new ≡ length self.old }
-        ensures value { (j : ℕ) → j < length self.old → slice_index self.new j ≡ (slice_index self.old j + by * slice_index other.now j) % P }
+        ensures value { (j : ℕ) → j < length self.old → slice_index self.new j
+            ≡ (slice_index self.old j + by * slice_index other.now j) % P }
     {
         add_multiple::<P>(&mut self.entries, by, &other.entries);
     }

@@ -2,7 +2,8 @@
 use algebraic_reduction::Log;
 use chains::{Chain, Complex};
 use field_mod::Field;
-use grid_files::{CubeSet, Kind, read_set};
+use cube_sets::CubeSet;
+use grid_files::{Kind, read_set};
 use homology_basis::{Basis, basis, prepare};
 use std::alloc::Global;
 use std::test::Fail;

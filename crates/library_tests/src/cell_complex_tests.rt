@@ -1,9 +1,9 @@
 //! A segment, alone and relative to its end points, and too many cells.
 use cell_complex::{CellsFault, Numbered, complex_of, relative, relative_within};
 use chains::Complex;
+use cube_sets::CubeSet;
 use elem_cubes::{Cell, Corner};
 use field_mod::Field;
-use cube_sets::CubeSet;
 use std::alloc::Global;
 use std::test::Fail;
 

@@ -13,9 +13,11 @@ content disk name = unwrap_or (disk name) []
 -- The files of a list of names and contents: the first of a name counts.
 abbrev pub held : {N B : Type 0} → (N → List ℕ) → (B → List ℕ) → List (N × B) → Disk
 held name_of bytes_of [] name = None
-held name_of bytes_of (f ∷ fs) name = if bytes_eq (name_of f.0) name then Some (bytes_of f.1) else held name_of bytes_of fs name
+held name_of bytes_of (f ∷ fs) name = if bytes_eq (name_of f.0) name then Some (bytes_of f.1)
+    else held name_of bytes_of fs name
 
--- The first n bytes of the buffer are those of the file from that place on, and n is 0 only at the end or for an empty buffer.
+-- The first n bytes of the buffer are those of the file from that place on, and n is 0 only at the
+-- end or for an empty buffer.
 pub record ReadsFrom (bytes : List ℕ) (at n : ℕ) (buf : List ℕ) : Type 0 where
   pub front : take (at + n) bytes ≡ take at bytes ++ take n buf
   pub end : n ≡ 0 → 0 < length buf → length bytes ≤ at
@@ -31,11 +33,12 @@ pub record Puts (name bytes : List ℕ) (before now : Disk) : Type 0 where
 
 -- The file stays, or has a front of the piece behind what is kept; all others stay.
 pub record MayPut (first : Bool) (name piece : List ℕ) (before now : Disk) : Type 0 where
-  pub put : (now name ≡ before name) ⊎ ((n : ℕ) × (now name ≡ Some (kept first before name ++ take n piece)))
+  pub put : (now name ≡ before name) ⊎ ((n : ℕ)
+      × (now name ≡ Some (kept first before name ++ take n piece)))
   pub others : (other : List ℕ) → other ≢ name → now other ≡ before other
 
--- A failed append that keeps n bytes of its piece, or all of a shorter one: the file has them behind what is kept. Where n is 0 all
--- files stay.
+-- A failed append that keeps n bytes of its piece, or all of a shorter one: the file has them
+-- behind what is kept. Where n is 0 all files stay.
 pub record Tears (n : ℕ) (first : Bool) (name piece : List ℕ) (before now : Disk) : Type 0 where
   pub none : n ≡ 0 → now ≡ before
   pub some : 0 < n → Puts name (kept first before name ++ take n piece) before now

@@ -39,9 +39,11 @@ abbrev pub StandsAt : List ℕ → Type 0
 StandsAt [] = Unit {0}
 StandsAt (b ∷ bs) = (is_blank b ≡ false) × ((b == 59) ≡ false)
 
--- The rest of a text follows blanks and comments at its front, so that its tokens are those of the text.
+-- The rest of a text follows blanks and comments at its front, so that its tokens are those of the
+-- text.
 pub record FollowsBlanks (text rest : List ℕ) : Type 0 where
-  pub tokens : (place : ℕ) → tokens_behind 0 place text ≡ tokens_behind 0 (place + (length text - length rest)) rest
+  pub tokens : (place : ℕ) → tokens_behind 0 place text
+      ≡ tokens_behind 0 (place + (length text - length rest)) rest
   pub behind : rest ≡ drop (length text - length rest) text
   pub shorter : length rest ≤ length text
 
@@ -49,10 +51,12 @@ pub record FollowsBlanks (text rest : List ℕ) : Type 0 where
 abbrev pub further : ℕ → Standing → Standing
 further n s = record { place = s.place + n; rest = drop n s.rest }
 
--- A call that reads a token takes it from the front of those that are left, and then stands right behind it. The place of the end
--- is the length of the text.
-pub record Lexes (before : Standing) (place : ℕ) (token : Option Lexeme) (now : Standing) : Type 0 where
-  pub tokens : tokens_at before ≡ listed place token (tokens_at now)
-  pub later : before.place ≤ place
-  pub behind : now ≡ further (place - before.place + size_of (drop (place - before.place) before.rest)) before
-  pub end : IfNone token (place ≡ before.place + length before.rest)
+-- A call that reads a token takes it from the front of those that are left, and then stands right
+-- behind it. The place of the end is the length of the text.
+pub record Lexes (before : Standing) (place : ℕ) (token : Option Lexeme) (now : Standing) : Type 0
+  where
+    pub tokens : tokens_at before ≡ listed place token (tokens_at now)
+    pub later : before.place ≤ place
+    pub behind : now ≡ further (place - before.place
+        + size_of (drop (place - before.place) before.rest)) before
+    pub end : IfNone token (place ≡ before.place + length before.rest)

@@ -4,6 +4,7 @@ pub mod Handing
 pub mod Causes
 pub mod Disk
 pub mod Seen
+pub mod Real
 pub mod Memory
 pub mod Tokens
 pub mod Scanning

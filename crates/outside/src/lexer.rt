@@ -5,8 +5,8 @@ ghost use Rattle.outside.specs.Lexing.{said, size_of, token_of, further, Follows
 
 use std::marker::Model;
 
-/// A token: a number, a number outside 64 bits, `->`, a word by its letters, one of the marks `( ) [ ] { } : # = * +`, any
-/// other byte, or the end of the text.
+/// A token: a number, a number outside 64 bits, `->`, a word by its letters, one of the marks `( )
+/// [ ] { } : # = * +`, any other byte, or the end of the text.
 #[derive(Clone, Copy, Debug, PartialEq, Eq)]
 pub enum Token<'a> {
     Number(i64),
@@ -18,7 +18,8 @@ pub enum Token<'a> {
     End,
 }
 
-/// Reads a text token by token. It is seen as the place where it stands and the bytes from there on.
+/// Reads a text token by token. It is seen as the place where it stands and the bytes from there
+/// on.
 #[derive(Drop)]
 pub struct Lexer<'a> {
     place: u64,
@@ -47,8 +48,9 @@ impl<'a> Lexer<'a> {
         }
     }
 
-    /// The next token with the place of its first byte, behind blanks and comments; the end has the length of the text as its
-    /// place. The lexer then stands right behind the token. Takes no memory.
+    /// The next token with the place of its first byte, behind blanks and comments; the end has the
+    /// length of the text as its place. The lexer then stands right behind the token. Takes no
+    /// memory.
     pub fn next(&mut self) -> (u64, Token<'a>)
         ensures { Lexes self.old result.0 (said result.1) self.new }
     {
@@ -60,8 +62,8 @@ impl<'a> Lexer<'a> {
         (place, token)
     }
 
-    /// The place where the lexer stands, and the bytes from there up to the next line feed or the end, where it then stands.
-    /// Takes no memory.
+    /// The place where the lexer stands, and the bytes from there up to the next line feed or the
+    /// end, where it then stands. Takes no memory.
     pub fn line_rest(&mut self) -> (u64, &'a [u8])
         ensures place { result.0 ≡ self.old.place }
         ensures line { result.1.now ≡ line_of self.old.rest }

@@ -1,7 +1,9 @@
-//! What the program reads and writes: files, sinks and a gate by their meanings, whole files and texts, tokens and numbers.
+//! What the program reads and writes: files, sinks and a gate by their meanings, whole files and
+//! texts, tokens and numbers.
 #![tactic(auto)]
 
 mod ends;
+mod errors;
 mod laws;
 mod lexer;
 mod memory;
@@ -16,6 +18,3 @@ pub use memory::{MemFiles, MemSink};
 pub use quiet::{OpenGate, QuietFiles, QuietSink};
 pub use real::{RealFiles, RealSink};
 pub use whole::{ReadFault, put_number, read_whole, send_all};
-
-#[cfg(test)]
-mod tests;

@@ -5,8 +5,8 @@ ghost use Rattle.outside.specs.Disk.{held};
 use crate::memory::{copy_from, place_of};
 use crate::{Failed, Files, Gate, Sink};
 
-/// Files that never fail. They tell their contents until the first append; an append drops its piece, and from then on they
-/// tell nothing. A name that is not held reads as an empty file.
+/// Files that never fail. They tell their contents until the first append; an append drops its
+/// piece, and from then on they tell nothing. A name that is not held reads as an empty file.
 #[derive(Drop)]
 pub struct QuietFiles {
     files: Vec<(String, Vec<u8>)>,
@@ -17,7 +17,8 @@ pub struct QuietFiles {
 impl QuietFiles {
     /// Files with distinct names. Takes no memory.
     pub fn of(files: Vec<(String, Vec<u8>)>) -> Self
-        ensures holds { (⟦<QuietFiles as Files>⟧.seen result).holds ≡ Some (held string_bytes (λ b. b.items) files.items) }
+        ensures holds { (⟦<QuietFiles as Files>⟧.seen result).holds
+            ≡ Some (held string_bytes (λ b. b.items) files.items) }
         ensures given { (⟦<QuietFiles as Files>⟧.seen result).given ≡ 0 }
     {
         QuietFiles {
@@ -29,14 +30,12 @@ impl QuietFiles {
 }
 
 impl Files for QuietFiles {
-    ghost seen = {
-        λ m. record {
-            holds = if m.tells then Some (held string_bytes (λ b. b.items) m.files.items) else None;
-            read_faults = λ _. 0;
-            write_faults = λ _. 0;
-            given = m.given;
-        }
-    };
+    ghost seen = { λ m. record {
+      holds = if m.tells then Some (held string_bytes (λ b. b.items) m.files.items) else None;
+      read_faults = λ _. 0;
+      write_faults = λ _. 0;
+      given = m.given;
+    } };
 
     fn read_at(&mut self, name: &str, at: u64, buf: &mut [u8]) -> Result<usize, Failed> {
         let n = match place_of(&self.files, name) {

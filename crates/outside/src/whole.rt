@@ -23,12 +23,23 @@ pub enum ReadFault {
     NoMemory,
 }
 
+impl From<NoMemory> for ReadFault {
+    ghost use Rattle.std.specs.Prelude.{◌≡◌};
+    ghost use Rattle.outside.specs.declared.whole.ReadFault.TheVariants.{NoMemory};
+
+    ghost from_gives = { λ _ fault. fault ≡ NoMemory };
+
+    fn from(_e: NoMemory) -> ReadFault {
+        ReadFault::NoMemory
+    }
+}
+
 const BLOCK: usize = 65536;
 
-/// All bytes of a file that has at most `limit`, itself at most `2 ^ 30`.
-/// `Failed` comes only where `read_faults` of the name rose in this call. `TooLong` comes exactly where the file has more than
-/// `limit` bytes and no read failed before that was seen; of a file that is not told only where `given` rose by at least
-/// `limit + 1`. At most `limit + 1` bytes are read.
+/// All bytes of a file that has at most `limit`, itself at most `2 ^ 30`. `Failed` comes only where
+/// `read_faults` of the name rose in this call. `TooLong` comes exactly where the file has more
+/// than `limit` bytes and no read failed before that was seen; of a file that is not told only
+/// where `given` rose by at least `limit + 1`. At most `limit + 1` bytes are read.
 pub fn read_whole<F: Files>(
     alloc: Global,
     files: &mut F,
@@ -36,12 +47,17 @@ pub fn read_whole<F: Files>(
     limit: u64,
 ) -> Result<Vec<u8>, ReadFault>
     requires { limit ≤ 2 ^ 30 }
-    ensures bytes { IfOk result (λ bytes. IfSome (F.seen files.old).holds (λ disk. bytes.items ≡ content disk name.now)) }
+    ensures bytes { IfOk result (λ bytes. IfSome (F.seen files.old).holds
+        (λ disk. bytes.items ≡ content disk name.now)) }
     ensures within { IfOk result (λ bytes. length bytes.items ≤ limit) }
-    ensures counted { IfOk result (λ bytes. (F.seen files.new).given ≡ more (F.seen files.old).given (length bytes.items)) }
-    ensures failed { IsErrOf result ReadFault.Failed → Rose ((F.seen files.old).read_faults name.now) ((F.seen files.new).read_faults name.now) }
-    ensures too_long { IsErrOf result ReadFault.TooLong → IfSome (F.seen files.old).holds (λ disk. limit < length (content disk name.now)) }
-    ensures too_many { IsErrOf result ReadFault.TooLong → more (F.seen files.old).given (limit + 1) ≤ (F.seen files.new).given }
+    ensures counted { IfOk result (λ bytes. (F.seen files.new).given
+        ≡ more (F.seen files.old).given (length bytes.items)) }
+    ensures failed { IsErrOf result ReadFault.Failed
+        → Rose ((F.seen files.old).read_faults name.now) ((F.seen files.new).read_faults name.now) }
+    ensures too_long { IsErrOf result ReadFault.TooLong
+        → IfSome (F.seen files.old).holds (λ disk. limit < length (content disk name.now)) }
+    ensures too_many { IsErrOf result ReadFault.TooLong → more (F.seen files.old).given (limit + 1)
+        ≤ (F.seen files.new).given }
     ensures given { (F.seen files.new).given ≤ (F.seen files.old).given + (limit + 1) }
     ensures holds { (F.seen files.new).holds ≡ (F.seen files.old).holds }
     ensures reads { NoneFell (F.seen files.old).read_faults (F.seen files.new).read_faults }
@@ -55,19 +71,15 @@ pub fn read_whole<F: Files>(
         let at = bytes.len();
         match files.read_at(name, at as u64, &mut block[..room]) {
             Ok(0) => return Ok(bytes),
-            Ok(n) => {
-                if bytes.extend_from_slice(&block[..n]).is_err() {
-                    return Err(ReadFault::NoMemory);
-                }
-            }
+            Ok(n) => bytes.extend_from_slice(&block[..n])?,
             Err(_) => return Err(ReadFault::Failed),
         }
     }
     Err(ReadFault::TooLong)
 }
 
-/// Writes all the bytes, handing the whole rest to each write. `Failed` comes only where `faults` rose, and then a prefix was
-/// written. Takes no memory.
+/// Writes all the bytes, handing the whole rest to each write. `Failed` comes only where `faults`
+/// rose, and then a prefix was written. Takes no memory.
 #[tactic(auto, using(crate::proofs::Gaining::gains_more, crate::proofs::Gaining::gains_front))]
 pub fn send_all<S: Sink>(sink: &mut S, bytes: &[u8]) -> Result<(), Failed>
     ensures sent { OnOk result (Gains (S.written sink.old) (S.written sink.new) bytes.now) }

@@ -1,2 +1,2 @@
-pub mod FaultText
+-- The texts of reports.
 pub mod ReportText

@@ -1,11 +1,8 @@
 -- The texts of reports.
-use Rattle.std.specs.Prelude.{ℕ, ◌+◌, ◌==◌, ◌≤◌, if◌then◌else◌, List, [], ◌∷◌, ◌++◌, length, get_or, codes, decimal}
-use Rattle.std.specs.List.{flat_map}
-use Rattle.elem_cubes.specs.Cells.{Factor, lower_of, upper_of}
-use Rattle.cube_sets.specs.declared.fault.TheConstants.{CUBES}
-use Rattle.grid_files.specs.Written.{corner_text, written}
+use Rattle.std.specs.Prelude.{ℕ, ◌+◌, ◌==◌, if◌then◌else◌, List, [], ◌∷◌, ◌++◌, get_or, codes, decimal}
+use Rattle.faults.specs.ChainText.{cell_text, number_text, chain_text}
 use Rattle.report.specs.declared.reports.Report.{Report}
-use Rattle.report.specs.declared.reports.Report.TheVariants.{Pair, Chain, Set}
+use Rattle.report.specs.declared.reports.Report.TheVariants.{Pair, Chain}
 use Rattle.report.specs.declared.reports.Shown.{Shown}
 
 -- the vector space of that dimension over the field of p elements: 0, Z_p or Z_p^d
@@ -17,23 +14,6 @@ group_text p d = if d == 0 then codes "0"
 -- the line on the homology group of degree k
 abbrev pub group_line : ℕ → ℕ → ℕ → List ℕ
 group_line p k d = codes "H_" ++ decimal k ++ codes " = " ++ group_text p d ++ codes "\n"
-
--- a cell by its lower and its upper corner, also where it is full
-abbrev pub cell_text : List Factor → List ℕ
-cell_text q = codes "[" ++ corner_text (lower_of q) ++ corner_text (upper_of q) ++ codes "]"
-
--- a generator of a chain file by its number
-abbrev pub number_text : ℕ → List ℕ
-number_text g = codes "#" ++ decimal g
-
--- a coefficient and a generator that is written so
-abbrev pub term_text : {G : Type 0} → (G → List ℕ) → G × ℕ → List ℕ
-term_text write (g, c) = decimal c ++ codes " * " ++ write g
-
--- a chain by its terms
-abbrev pub chain_text : {G : Type 0} → (G → List ℕ) → List (G × ℕ) → List ℕ
-chain_text write [] = []
-chain_text write (t ∷ ts) = term_text write t ++ flat_map (λ t. codes " + " ++ term_text write t) ts
 
 -- the line on the cycle of number j in degree k
 abbrev pub cycle_line : {G : Type 0} → (G → List ℕ) → ℕ → ℕ → List (G × ℕ) → List ℕ
@@ -69,9 +49,3 @@ shown_cycles shown cycles = if shown.cycles then cycles else []
 abbrev pub report_text : Report → Shown → List ℕ
 report_text (Pair pair) shown = group_lines cell_text shown.modulus pair.dimensions (shown_cycles shown pair.cycles)
 report_text (Chain dimensions cycles) shown = group_lines number_text shown.modulus dimensions (shown_cycles shown cycles)
-report_text (Set set) shown = written set
-
--- a set in the report has at most as many members as a set file
-abbrev pub HasText : Report → Type 0
-HasText (Set set) = length set.cells ≤ CUBES
-HasText report = Unit {0}

@@ -1,7 +1,7 @@
 //! Cycles by degree, which contracts see as a list of lists of chains.
 ghost use Rattle.std.specs.Prelude.{◌≡◌, [], map, get_or};
 
-use crate::Terms;
+use faults::Terms;
 use std::marker::Model;
 
 /// The cycles of a basis in each degree, by degree from 0.

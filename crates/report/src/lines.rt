@@ -1,20 +1,22 @@
 //! The lines on homology groups and on the cycles of their bases.
 ghost use Rattle.std.specs.Prelude.{◌≡◌, ◌++◌, OnOk, [], get_or};
-ghost use Rattle.report.specs.ReportText.{group_text, group_line, term_text, chain_text, cycle_line, cycle_lines, degree_lines, group_lines, shown_cycles};
+ghost use Rattle.report.specs.ReportText.{group_text, group_line, cycle_line, cycle_lines, degree_lines, group_lines, shown_cycles};
 
-use crate::generator::Generator;
-use crate::{Cycles, Shown, Terms};
+use crate::{Cycles, Shown};
+use faults::{Generator, Terms, put_chain};
 use itoa::Buffer;
 use std::alloc::AllocError as NoMemory;
 
-/// Adds the lines on the groups of these dimensions, each with the cycles of its basis where they are shown.
+/// Adds the lines on the groups of these dimensions, each with the cycles of its basis where they
+/// are shown.
 pub(crate) fn put_groups<G: Generator>(
     to: &mut Vec<u8>,
     shown: &Shown,
     dimensions: &[u32],
     cycles: &Cycles<G>,
 ) -> Result<(), NoMemory>
-    ensures { OnOk result (to.new.items ≡ to.old.items ++ group_lines G.text shown.now.modulus dimensions.now (shown_cycles shown.now cycles.now)) }
+    ensures { OnOk result (to.new.items ≡ to.old.items ++ group_lines G.text shown.now.modulus
+        dimensions.now (shown_cycles shown.now cycles.now)) }
 {
     for (degree, dimension) in dimensions.iter().enumerate() {
         let printed = printed_in(shown, cycles, degree);
@@ -41,7 +43,8 @@ fn put_degree<G: Generator>(
     dimension: u32,
     cycles: &[Terms<G>],
 ) -> Result<(), NoMemory>
-    ensures { OnOk result (to.new.items ≡ to.old.items ++ degree_lines G.text modulus degree dimension cycles.now) }
+    ensures { OnOk result (to.new.items ≡ to.old.items
+        ++ degree_lines G.text modulus degree dimension cycles.now) }
 {
     put_group_line(to, modulus, degree, dimension)?;
     put_cycles(to, degree, cycles)
@@ -102,7 +105,8 @@ fn put_cycle_line<G: Generator>(
     number: usize,
     cycle: &Terms<G>,
 ) -> Result<(), NoMemory>
-    ensures { OnOk result (to.new.items ≡ to.old.items ++ cycle_line G.text degree number cycle.now) }
+    ensures { OnOk result (to.new.items ≡ to.old.items
+        ++ cycle_line G.text degree number cycle.now) }
 {
     let mut buffer = Buffer::new();
     to.extend_from_slice(b"z_")?;
@@ -112,30 +116,4 @@ fn put_cycle_line<G: Generator>(
     to.extend_from_slice(b" = ")?;
     put_chain(to, cycle)?;
     to.extend_from_slice(b"\n")
-}
-
-// Adds a chain.
-fn put_chain<G: Generator>(to: &mut Vec<u8>, chain: &Terms<G>) -> Result<(), NoMemory>
-    ensures { OnOk result (to.new.items ≡ to.old.items ++ chain_text G.text chain.now) }
-{
-    let [first, rest @ ..] = chain.as_slice() else {
-        return Ok(());
-    };
-    put_term(to, first)?;
-    for term in rest {
-        to.extend_from_slice(b" + ")?;
-        put_term(to, term)?;
-    }
-    Ok(())
-}
-
-// Adds a term.
-fn put_term<G: Generator>(to: &mut Vec<u8>, term: &(G, u16)) -> Result<(), NoMemory>
-    ensures { OnOk result (to.new.items ≡ to.old.items ++ term_text G.text term.now) }
-{
-    let mut buffer = Buffer::new();
-    let (generator, coefficient) = term;
-    to.extend_from_slice(buffer.format(*coefficient).as_bytes())?;
-    to.extend_from_slice(b" * ")?;
-    generator.put(to)
 }

@@ -7,6 +7,7 @@ use elem_cubes::Cell;
 pub struct PairReport {
     /// The dimensions of its groups, by degree from 0.
     pub dimensions: Dimensions,
-    /// The cycles of a basis in each degree, their terms in cell order. They may be left out where they are not printed.
+    /// The cycles of a basis in each degree, their terms in cell order. They may be left out where
+    /// they are not printed.
     pub cycles: Cycles<Cell>,
 }

@@ -1,10 +1,9 @@
 //! Reports, and their texts.
 ghost use Rattle.std.specs.Prelude.{◌≡◌, IfOk};
-ghost use Rattle.report.specs.ReportText.{report_text, HasText};
+ghost use Rattle.report.specs.ReportText.{report_text};
 
 use crate::lines::put_groups;
 use crate::{Cycles, Dimensions, PairReport};
-use grid_files::{CubeSet, write_set};
 use std::alloc::{AllocError as NoMemory, Global};
 
 /// What a run prints where nothing is refused.
@@ -12,14 +11,13 @@ use std::alloc::{AllocError as NoMemory, Global};
 pub enum Report {
     /// On a pair of cubical sets.
     Pair(PairReport),
-    /// On a chain complex: the dimensions of its groups by degree from 0, and the cycles of a basis in each degree, their
-    /// terms by ascending generator. The cycles may be left out where they are not printed.
+    /// On a chain complex: the dimensions of its groups by degree from 0, and the cycles of a basis
+    /// in each degree, their terms by ascending generator. The cycles may be left out where they are
+    /// not printed.
     Chain {
         dimensions: Dimensions,
         cycles: Cycles<u32>,
     },
-    /// The result of a tool on sets.
-    Set(CubeSet),
 }
 
 /// What of a report is printed, and how.
@@ -31,9 +29,8 @@ pub struct Shown {
     pub cycles: bool,
 }
 
-/// The text of a report. A set in it has at most as many members as a set file.
+/// The text of a report.
 pub fn text(alloc: Global, report: &Report, shown: &Shown) -> Result<Vec<u8>, NoMemory>
-    requires { HasText report.now }
     ensures { IfOk result (λ text. text.items ≡ report_text report.now shown.now) }
 {
     let mut text = Vec::new(alloc);
@@ -44,7 +41,6 @@ pub fn text(alloc: Global, report: &Report, shown: &Shown) -> Result<Vec<u8>, No
         Report::Chain { dimensions, cycles } => {
             put_groups(&mut text, shown, dimensions.as_slice(), cycles)?;
         }
-        Report::Set(set) => return write_set(alloc, set),
     }
     Ok(text)
 }

@@ -1,24 +1,27 @@
 -- What a fault rests on decides the status, for any job that is judged in one way.
-use Rattle.std.proofs.Common.{◌≡◌, ◌≢◌, ℕ, List, [], append-nil, Option, None, Some, Result, Ok, Err, IfSome, Contains, refl, sym, ap, ◌∙◌, subst, ◌⊎◌, inl, inr, ⊎_elim}
-use Rattle.outside.specs.Causes.{Rose}
+use Rattle.std.proofs.Common.{◌≡◌, ◌≢◌, ℕ, false, List, [], append-nil, Option, None, Some, Result, Ok, Err, IfSome, refl, sym, ap, ◌∙◌, subst, ◌⊎◌, inl, inr}
 use Rattle.outside.specs.Disk.{Disk}
 use Rattle.outside.specs.Seen.{Seen}
 use Rattle.outside.specs.Told.{Gains}
-use Rattle.report.specs.declared.fault.Fault.{Fault}
-use Rattle.report.specs.declared.fault.Fault.TheVariants.{NoTool, NotAForm, CannotRead, BadText, NotComplex, Dimension, Limit, CannotWriteOut, OutOfMemory}
-use Rattle.report.specs.declared.limit_name.LimitName.TheVariants.{FileBytes}
-use Rattle.loading.specs.declared.status.Status.{Status}
-use Rattle.loading.specs.declared.status.Status.TheVariants as statuses
-use Rattle.loading.specs.Statuses.{status_of}
+use Rattle.faults.specs.declared.fault.Fault.{Fault}
+use Rattle.faults.specs.declared.fault.Fault.TheVariants.{NoTool, NotAForm, CannotRead, BadText, NotComplex, Dimension, Limit, CannotWriteOut, OutOfMemory}
+use Rattle.faults.specs.declared.status.Status.{Status}
+use Rattle.faults.specs.declared.status.Status.TheVariants as statuses
+use Rattle.faults.specs.Statuses.{status_of, without_chain}
 use Rattle.loading.specs.Readings.{reading, as_read}
 use Rattle.loading.specs.Loads.{IsCaused}
-use Rattle.loading.specs.Jobs.{Job, IsAllowed, IsJudged, AreAlike, HasOneJudgement, IsAnswer, RestsOn}
-use Rattle.loading.proofs.Loading.{some_map}
+use Rattle.loading.specs.Jobs.{Job, IsJudged, HasOneJudgement, IsRefusedWith, IsAnswer, RestsOn}
 use Rattle.tool.specs.Ends.{ReadFailed, EndsAs}
 
-always : {A : Type 0} (P : A → Type 0) (o : Option A) → ((x : A) → P x) → IfSome o P
-always P None f = tt
-always P (Some x) f = f x
+status_without_chain : (fault : Fault) → status_of (without_chain fault) ≡ status_of fault
+status_without_chain fault = refl
+
+one_status : (f g : Fault) → without_chain f ≡ without_chain g → status_of f ≡ status_of g
+one_status f g e = sym (status_without_chain f) ∙ ap status_of e ∙ status_without_chain g
+
+each : {A : Type 0} (P : A → Type 0) (o : Option A) → ((x : A) → o ≡ Some x → P x) → IfSome o P
+each P None f = tt
+each P (Some x) f = f x refl
 
 by_read : {A : Type 0} (r : Result A Fault) (read wrote : Type 0) → read → EndsAs r read wrote statuses.Read
 by_read (Ok input) read wrote failed = inr (inl (refl, failed))
@@ -36,58 +39,69 @@ module _ (job : Job) (once : HasOneJudgement job) (old new : Seen) where
   data Why (fault : Fault) : Type 0 where
     for_memory : fault ≡ OutOfMemory → Why fault
     for_a_read : status_of fault ≡ statuses.Read → Failed → Why fault
-    as_judged : IfSome old.holds (λ disk. IsJudged job (reading disk) (Err fault)) → Why fault
+    as_judged : IsJudged job (reading old.holds) (Err fault) → Why fault
 
-  refused_first : (fault : Fault) → IfSome old.holds (λ disk. job.gives (reading disk) (Err fault)) → Why fault
-  refused_first fault h = as_judged (some_map (λ disk. job.gives (reading disk) (Err fault)) (λ disk. IsJudged job (reading disk) (Err fault)) old.holds (λ d v. inl v) h)
-
-  at_loading : (fault : Fault) → IsCaused job.names old new fault → IfSome old.holds (λ disk. job.gives (as_read fault (reading disk)) (Err fault)) → Why fault
-  at_loading NoTool c h = absurd c
-  at_loading (NotAForm tool) c h = absurd c
-  at_loading (CannotRead name) c h = for_a_read refl (name, c.0, c.1)
-  at_loading (BadText name place cause) c h = refused_first (BadText name place cause) h
-  at_loading (NotComplex name degree generator value at) c h = refused_first (NotComplex name degree generator value at) h
-  at_loading (Dimension name found earlier) c h = refused_first (Dimension name found earlier) h
-  at_loading (Limit count number) c h = refused_first (Limit count number) h
-  at_loading CannotWriteOut c h = absurd c
-  at_loading OutOfMemory c h = absurd c
+  at_loading : (fault : Fault) → IsCaused old new fault → job.gives (as_read fault (reading old.holds)) (Err fault) → Why fault
+  at_loading (CannotRead name) c h = for_a_read refl (name, once.named old.holds name h, c)
+  at_loading fault c h = as_judged (inl h)
 
   why : (fault : Fault) → RestsOn job old new fault → Why fault
   why fault (inl (inl e)) = for_memory e
   why fault (inl (inr (c, h))) = at_loading fault c h
-  why fault (inr (input, told, r)) = as_judged (some_map (λ disk. job.gives (reading disk) (Ok input)) (λ disk. IsJudged job (reading disk) (Err fault)) old.holds (λ d v. inr (input, v, r)) told)
+  why fault (inr (input, given, r)) = as_judged (inr (input, given, r))
 
   module _ (wrote : Type 0) where
     abbrev pub Exact : Status → Disk → Type 0
-    Exact status disk = (outcome : Result job.Input Fault) → IsJudged job (reading disk) outcome → EndsAs outcome Failed wrote status
+    Exact status disk = (outcome : Result job.Input Fault) → IsJudged job (reading (Some disk)) outcome → EndsAs outcome Failed wrote status
 
-    judged : (disk : Disk) (fault : Fault) → IsJudged job (reading disk) (Err fault) → Exact (status_of fault) disk
-    judged disk fault h (Ok input) k = absurd (once.one (reading disk) (Ok input) (Err fault) k h)
-    judged disk fault h (Err other) k = inl (once.one (reading disk) (Err fault) (Err other) h k)
+    judged : (disk : Disk) (fault : Fault) → IsJudged job (reading (Some disk)) (Err fault) → Exact (status_of fault) disk
+    judged disk fault h (Ok input) k = absurd (once.one disk (λ name. false) (Ok input) (Err fault) k h)
+    judged disk fault h (Err other) k = inl (one_status fault other (once.one disk (λ name. false) (Err fault) (Err other) h k))
 
-    by_why : (fault : Fault) → Why fault → IfSome old.holds (Exact (status_of fault))
-    by_why fault (for_memory e) = always (Exact (status_of fault)) old.holds (λ disk outcome k. subst (λ (f : Fault). EndsAs outcome Failed wrote (status_of f)) (sym e) (by_memory outcome Failed wrote))
-    by_why fault (for_a_read e failed) = always (Exact (status_of fault)) old.holds (λ disk outcome k. subst (λ (s : Status). EndsAs outcome Failed wrote s) (sym e) (by_read outcome Failed wrote failed))
-    by_why fault (as_judged h) = some_map (λ disk. IsJudged job (reading disk) (Err fault)) (Exact (status_of fault)) old.holds (λ disk v. judged disk fault v) h
+    by_why : (fault : Fault) → Why fault → (disk : Disk) → old.holds ≡ Some disk → Exact (status_of fault) disk
+    by_why fault (for_memory e) disk is outcome k = subst (λ (f : Fault). EndsAs outcome Failed wrote (status_of f)) (sym e) (by_memory outcome Failed wrote)
+    by_why fault (for_a_read e failed) disk is outcome k = subst (λ (s : Status). EndsAs outcome Failed wrote s) (sym e) (by_read outcome Failed wrote failed)
+    by_why fault (as_judged h) disk is outcome k = judged disk fault (subst (λ (o : Option Disk). IsJudged job (reading o) (Err fault)) is h) outcome k
 
     -- the status of a run that ended with a fault
     pub refusal_ends : (fault said : Fault) (status : Status) → RestsOn job old new fault → (said ≡ fault) ⊎ (said ≡ OutOfMemory) → status ≡ status_of said → IfSome old.holds (Exact status)
-    refusal_ends fault said status r (inl m) s = subst (λ (v : Status). IfSome old.holds (Exact v)) (sym (s ∙ ap status_of m)) (by_why fault (why fault r))
-    refusal_ends fault said status r (inr m) s = subst (λ (v : Status). IfSome old.holds (Exact v)) (sym (s ∙ ap status_of m)) (by_why OutOfMemory (for_memory refl))
+    refusal_ends fault said status r m s = each (Exact status) old.holds (λ disk is. subst (λ (v : Status). Exact v disk) (sym s) (by m disk is))
+      where
+        by : (said ≡ fault) ⊎ (said ≡ OutOfMemory) → (disk : Disk) → old.holds ≡ Some disk → Exact (status_of said) disk
+        by (inl e) = subst (λ (f : Fault). (disk : Disk) → old.holds ≡ Some disk → Exact (status_of f) disk) (sym e) (by_why fault (why fault r))
+        by (inr e) = by_why said (for_memory e)
 
     -- the status of a run that ended with its writing
     pub delivery_ends : (text : List ℕ) (status : Status) → IsAnswer job old text → (status ≡ statuses.Done) ⊎ (status ≡ statuses.Write) → (status ≡ statuses.Write → wrote)
         → IfSome old.holds (Exact status)
-    delivery_ends text status (input, told, allowed, right) ends rose =
-        some_map (λ disk. job.gives (reading disk) (Ok input)) (Exact status) old.holds (λ disk v. given disk v) told
+    delivery_ends text status (input, judged_so, right) ends rose = each (Exact status) old.holds given
       where
         ended : (other : job.Input) → (status ≡ statuses.Done) ⊎ (status ≡ statuses.Write) → EndsAs {A = job.Input} (Ok other) Failed wrote status
         ended other (inl e) = inl e
         ended other (inr e) = inr (inr (inl (e, rose e)))
 
-        given : (disk : Disk) → job.gives (reading disk) (Ok input) → Exact status disk
-        given disk v (Ok other) k = ended other ends
-        given disk v (Err fault) k = absurd (once.one (reading disk) (Ok input) (Err fault) (v, allowed) k)
+        given : (disk : Disk) → old.holds ≡ Some disk → Exact status disk
+        given disk is (Ok other) k = ended other ends
+        given disk is (Err fault) k = absurd (once.one disk (λ name. false) (Ok input) (Err fault) (subst (λ (o : Option Disk). IsJudged job (reading o) (Ok input)) is judged_so) k)
+
+  -- ---- what is refused whatever the reads find
+
+  pub refusal_is : (fault said : Fault) (status : Status) → RestsOn job old new fault → (said ≡ fault) ⊎ (said ≡ OutOfMemory) → status ≡ status_of said
+      → (refusal : Fault) → IsRefusedWith job refusal → (status ≡ status_of refusal) ⊎ (status ≡ statuses.NoMemory)
+  refusal_is fault said status r (inr m) s refusal only = inr (s ∙ ap status_of m)
+  refusal_is fault said status r (inl m) s refusal only = by r
+    where
+      is : (e : ◌≡◌ {A = Result job.Input Fault} (Err fault) (Err refusal)) → status ≡ status_of refusal
+      is e = s ∙ ap status_of (m ∙ (let i : fault ≡ refusal = cc in i))
+
+      by : RestsOn job old new fault → (status ≡ status_of refusal) ⊎ (status ≡ statuses.NoMemory)
+      by (inl (inl e)) = inr (s ∙ ap status_of (m ∙ e))
+      by (inl (inr (c, h))) = inl (is (only (as_read fault (reading old.holds)) (Err fault) (inl h)))
+      by (inr (input, given, refused)) = inl (is (only (reading old.holds) (Err fault) (inr (input, given, refused))))
+
+  pub never_answered : (text : List ℕ) → IsAnswer job old text → (refusal : Fault) → IsRefusedWith job refusal → ⊥
+  never_answered text (input, judged_so, right) refusal only =
+      let e : ◌≡◌ {A = Result job.Input Fault} (Ok input) (Err refusal) = only (reading old.holds) (Ok input) judged_so in cc
 
   -- ---- what the fault that is said rests on
 
@@ -95,7 +109,7 @@ module _ (job : Job) (once : HasOneJudgement job) (old new : Seen) where
   said_rests fault said r (inl e) = subst (λ (f : Fault). RestsOn job old new f) (sym e) r
   said_rests fault said r (inr e) = inl (inl e)
 
-  caused_so : (fault : Fault) → IsCaused job.names old new fault → status_of fault ≢ statuses.Write
+  caused_so : (fault : Fault) → IsCaused old new fault → status_of fault ≢ statuses.Write
   caused_so NoTool c e = c
   caused_so (NotAForm tool) c e = c
   caused_so (CannotRead name) c e = cc
@@ -110,7 +124,7 @@ module _ (job : Job) (once : HasOneJudgement job) (old new : Seen) where
   pub never_writes : (fault : Fault) → RestsOn job old new fault → status_of fault ≢ statuses.Write
   never_writes fault (inl (inl e)) w = let h : statuses.NoMemory ≡ statuses.Write = sym (ap status_of e) ∙ w in cc
   never_writes fault (inl (inr (c, h))) w = caused_so fault c w
-  never_writes fault (inr (input, told, r)) w = once.before input fault r w
+  never_writes fault (inr (input, given, r)) w = once.before input fault r w
 
   pub never_ends_so : (fault said : Fault) (status : Status) → RestsOn job old new fault → (said ≡ fault) ⊎ (said ≡ OutOfMemory) → status ≡ status_of said → status ≢ statuses.Write
   never_ends_so fault said status r m s w = never_writes said (said_rests fault said r m) (sym s ∙ w)

@@ -2,13 +2,12 @@
 ghost use Rattle.std.specs.Prelude.{◌≡◌, ◌⊎◌, []};
 ghost use Rattle.outside.specs.Told.{Gains, GainsFront};
 ghost use Rattle.outside.specs.Causes.{Rose};
-ghost use Rattle.report.specs.FaultText.{fault_text};
-ghost use Rattle.loading.specs.Statuses.{status_of};
+ghost use Rattle.faults.specs.FaultText.{fault_text};
+ghost use Rattle.faults.specs.Statuses.{status_of};
 ghost use Rattle.tool.specs.Ends.{Says};
 
-use loading::Status;
+use faults::{Fault, Status, fault_text};
 use outside::{Sink, send_all};
-use report::{Fault, fault_text};
 use std::alloc::Global;
 
 /// Writes the text of a report, or as much of it as can be and the line on that.
@@ -16,10 +15,11 @@ pub fn deliver<O: Sink, E: Sink>(text: &[u8], out: &mut O, err: &mut E) -> Statu
     ensures status { (result ≡ Status.Done) ⊎ (result ≡ Status.Write) }
     ensures done { result ≡ Status.Done → Gains (O.written out.old) (O.written out.new) text.now }
     ensures quiet { result ≡ Status.Done → Gains (E.written err.old) (E.written err.new) [] }
-    ensures front { result ≡ Status.Write → GainsFront (O.written out.old) (O.written out.new) text.now }
+    ensures front { result ≡ Status.Write →
+        GainsFront (O.written out.old) (O.written out.new) text.now }
     ensures rose { result ≡ Status.Write → Rose (O.faults out.old) (O.faults out.new) }
-    ensures line { result ≡ Status.Write →
-        Says (E.written err.old) (E.written err.new) (E.faults err.old) (E.faults err.new) (fault_text Fault.CannotWriteOut) }
+    ensures line { result ≡ Status.Write → Says (E.written err.old) (E.written err.new)
+        (E.faults err.old) (E.faults err.new) (fault_text Fault.CannotWriteOut) }
 {
     if send_all(out, text).is_ok() {
         return Status::Done;
@@ -30,8 +30,9 @@ pub fn deliver<O: Sink, E: Sink>(text: &[u8], out: &mut O, err: &mut E) -> Statu
 
 /// Writes the line on a fault, or the one on want of memory where there is none for that line.
 pub fn refuse<E: Sink>(alloc: Global, fault: &Fault, err: &mut E) -> Status
-    ensures { (said : Fault) × ((said ≡ fault.now) ⊎ (said ≡ Fault.OutOfMemory)) × (result ≡ status_of said)
-        × Says (E.written err.old) (E.written err.new) (E.faults err.old) (E.faults err.new) (fault_text said) }
+    ensures { (said : Fault) × ((said ≡ fault.now) ⊎ (said ≡ Fault.OutOfMemory))
+        × (result ≡ status_of said) × Says (E.written err.old) (E.written err.new)
+        (E.faults err.old) (E.faults err.new) (fault_text said) }
 {
     match fault_text(alloc, fault) {
         Ok(line) => {
@@ -47,7 +48,8 @@ pub fn refuse<E: Sink>(alloc: Global, fault: &Fault, err: &mut E) -> Status
 
 // Writes a line as far as it can be.
 fn say<E: Sink>(line: &[u8], err: &mut E)
-    ensures { Says (E.written err.old) (E.written err.new) (E.faults err.old) (E.faults err.new) line.now }
+    ensures { Says (E.written err.old) (E.written err.new)
+        (E.faults err.old) (E.faults err.new) line.now }
 {
     let _ = send_all(err, line);
 }

@@ -1,13 +1,14 @@
 //! Files in memory, whose calls fail by number.
-ghost use Rattle.std.specs.Prelude.{◌≡◌, ◌<◌, ◌≤◌, ◌^◌, ◌+◌, ◌||◌, Some, None, ◌++◌, IfOk, OnOk, OnErr, slice_get, string_bytes, length, IfSome, IfNone, MatchResult, is_err, is_none, take};
-ghost use Rattle.outside.specs.Causes.{HasCause, more};
+ghost use Rattle.std.specs.Prelude.{◌≡◌, ◌<◌, ◌≤◌, ◌^◌, ◌+◌, ◌||◌, Some, None, ◌++◌, IfOk, OnOk, OnErr, slice_get, string_bytes, length, IfSome, IfNone, is_err, is_none, take};
+ghost use Rattle.outside.specs.Causes.{HasCause, CountsBytes, more};
 ghost use Rattle.outside.specs.Disk.{held, content, kept, Puts, MayPut, ReadsFrom, Tears};
 ghost use Rattle.outside.specs.Memory.{disk_of, faults_of, given_of, refused_of, is_among, next_fails, AreNew, CountsCall, FailsToAppend};
 
 use crate::{Failed, Files};
 use std::alloc::{AllocError, Global};
 
-/// Files in memory that tell what they hold. Their calls are numbered together from 1, and those whose number is in a list fail.
+/// Files in memory that tell what they hold. Their calls are numbered together from 1, and those
+/// whose number is in a list fail.
 #[derive(Drop)]
 pub struct MemFiles {
     alloc: Global,
@@ -21,10 +22,11 @@ pub struct MemFiles {
 }
 
 impl MemFiles {
-    /// Files with distinct names, and the numbers of the calls that are to fail. A failed append keeps nothing of its piece.
-    /// Takes no memory.
+    /// Files with distinct names, and the numbers of the calls that are to fail. A failed append
+    /// keeps nothing of its piece. Takes no memory.
     pub fn of(alloc: Global, files: Vec<(String, Vec<u8>)>, failing: Vec<u64>) -> Self
-        ensures holds { (⟦<MemFiles as Files>⟧.seen result).holds ≡ Some (held string_bytes (λ b. b.items) files.items) }
+        ensures holds { (⟦<MemFiles as Files>⟧.seen result).holds
+            ≡ Some (held string_bytes (λ b. b.items) files.items) }
         ensures new { AreNew failing.items 0 result }
     {
         MemFiles {
@@ -63,8 +65,11 @@ pub(crate) fn counts_failing(calls: &mut u64, failing: &[u64]) -> bool
 
 // The file of that name, by its place.
 pub(crate) fn place_of(files: &[(String, Vec<u8>)], name: &str) -> Option<usize>
-    ensures found { IfSome result (λ i. (i < length files.now) × IfSome (slice_get files.now i) (λ f. held string_bytes (λ b. b.items) files.now name.now ≡ Some f.1.items)) }
-    ensures first { IfSome result (λ i. (held string_bytes (λ b. b.items) (take i files.now) name.now ≡ None) × IfSome (slice_get files.now i) (λ f. string_bytes f.0 ≡ name.now)) }
+    ensures found { IfSome result (λ i. (i < length files.now)
+        × IfSome (slice_get files.now i) (λ f. held string_bytes (λ b. b.items) files.now name.now ≡ Some f.1.items)) }
+    ensures first { IfSome result (λ i.
+        (held string_bytes (λ b. b.items) (take i files.now) name.now ≡ None)
+        × IfSome (slice_get files.now i) (λ f. string_bytes f.0 ≡ name.now)) }
     ensures missing { IfNone result (held string_bytes (λ b. b.items) files.now name.now ≡ None) }
 {
     for i in 0..files.len() {
@@ -76,25 +81,26 @@ pub(crate) fn place_of(files: &[(String, Vec<u8>)], name: &str) -> Option<usize>
 }
 
 impl Files for MemFiles {
-    ghost seen = {
-        λ m. record {
-            holds = Some (held string_bytes (λ b. b.items) m.files.items);
-            read_faults = λ name. m.faults;
-            write_faults = λ name. m.faults;
-            given = m.given;
-        }
-    };
+    ghost seen = { λ m. record {
+      holds = Some (held string_bytes (λ b. b.items) m.files.items);
+      read_faults = λ name. m.faults;
+      write_faults = λ name. m.faults;
+      given = m.given;
+    } };
 
     fn read_at(&mut self, name: &str, at: u64, buf: &mut [u8]) -> Result<usize, Failed>
         requires { at ≤ 2 ^ 30 }
         ensures bound { IfOk result (λ n. n ≤ length buf.new) }
-        ensures bytes { IfOk result (λ n. ReadsFrom (content (disk_of self.old) name.now) at n buf.new) }
+        ensures bytes { IfOk result
+            (λ n. ReadsFrom (content (disk_of self.old) name.now) at n buf.new) }
         ensures holds { disk_of self.new ≡ disk_of self.old }
         ensures cause { HasCause (faults_of self.old) (faults_of self.new) result }
-        ensures given { MatchResult result (λ n. given_of self.new ≡ more (given_of self.old) n) (λ _. given_of self.new ≡ given_of self.old) }
+        ensures given { CountsBytes (given_of self.old) result (given_of self.new) }
 
-        // It fails exactly where its number is to fail or the name is missing, and each failure counts.
-        ensures fails { is_err result ≡ (next_fails self.old || is_none (disk_of self.old name.now)) }
+        // It fails exactly where its number is to fail or the name is missing, and each failure
+        // counts.
+        ensures fails { is_err result
+            ≡ (next_fails self.old || is_none (disk_of self.old name.now)) }
         ensures counts { CountsCall self.old result self.new }
         ensures refused { refused_of self.new ≡ refused_of self.old }
     {
@@ -112,12 +118,16 @@ impl Files for MemFiles {
     }
 
     fn append(&mut self, name: &str, piece: &[u8], first: bool) -> Result<(), Failed>
-        ensures put { OnOk result (Puts name.now (kept first (disk_of self.old) name.now ++ piece.now) (disk_of self.old) (disk_of self.new)) }
-        ensures failed { OnErr result (MayPut first name.now piece.now (disk_of self.old) (disk_of self.new)) }
+        ensures put { OnOk result (Puts name.now
+            (kept first (disk_of self.old) name.now ++ piece.now)
+            (disk_of self.old) (disk_of self.new)) }
+        ensures failed { OnErr result
+            (MayPut first name.now piece.now (disk_of self.old) (disk_of self.new)) }
         ensures cause { HasCause (faults_of self.old) (faults_of self.new) result }
         ensures given { given_of self.new ≡ given_of self.old }
 
-        // It fails exactly where its number is to fail or where it raises `refused`, and each failure counts.
+        // It fails exactly where its number is to fail or where it raises `refused`, and each
+        // failure counts.
         ensures fails { FailsToAppend self.old result self.new first name.now piece.now }
         ensures counts { CountsCall self.old result self.new }
     {
@@ -146,8 +156,11 @@ fn tear(
     first: bool,
     keeps: u64,
 ) -> Result<(), AllocError>
-    ensures ok { OnOk result (Tears keeps first name.now piece.now (held string_bytes (λ b. b.items) files.old.items) (held string_bytes (λ b. b.items) files.new.items)) }
-    ensures err { OnErr result (held string_bytes (λ b. b.items) files.new.items ≡ held string_bytes (λ b. b.items) files.old.items) }
+    ensures ok { OnOk result (Tears keeps first name.now piece.now
+        (held string_bytes (λ b. b.items) files.old.items)
+        (held string_bytes (λ b. b.items) files.new.items)) }
+    ensures err { OnErr result (held string_bytes (λ b. b.items) files.new.items
+        ≡ held string_bytes (λ b. b.items) files.old.items) }
 {
     if keeps == 0 {
         return Ok(());
@@ -164,9 +177,12 @@ fn put(
     piece: &[u8],
     first: bool,
 ) -> Result<(), AllocError>
-    ensures ok { OnOk result (Puts name.now (kept first (held string_bytes (λ b. b.items) files.old.items) name.now ++ piece.now)
-        (held string_bytes (λ b. b.items) files.old.items) (held string_bytes (λ b. b.items) files.new.items)) }
-    ensures err { OnErr result (held string_bytes (λ b. b.items) files.new.items ≡ held string_bytes (λ b. b.items) files.old.items) }
+    ensures ok { OnOk result (Puts name.now
+        (kept first (held string_bytes (λ b. b.items) files.old.items) name.now ++ piece.now)
+        (held string_bytes (λ b. b.items) files.old.items)
+        (held string_bytes (λ b. b.items) files.new.items)) }
+    ensures err { OnErr result (held string_bytes (λ b. b.items) files.new.items
+        ≡ held string_bytes (λ b. b.items) files.old.items) }
 {
     let Some(place) = place_of(files, name) else {
         let bytes = Vec::from_slice(alloc, piece)?;

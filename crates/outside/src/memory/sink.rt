@@ -5,7 +5,8 @@ use super::files::counts_failing;
 use crate::{Failed, Sink};
 use std::alloc::Global;
 
-/// A sink in memory that tells what was written. Writes are numbered from 1, and those whose number is in a list fail.
+/// A sink in memory that tells what was written. Writes are numbered from 1, and those whose number
+/// is in a list fail.
 #[derive(Drop)]
 pub struct MemSink {
     bytes: Vec<u8>,
@@ -20,8 +21,8 @@ pub struct MemSink {
 impl MemSink {
     ghost use Rattle.outside.specs.Memory.{IsNew, refused_at};
 
-    /// An empty sink that takes at most `most` bytes per call, at least 1, and the numbers of the writes that are to fail.
-    /// Takes no memory.
+    /// An empty sink that takes at most `most` bytes per call, at least 1, and the numbers of the
+    /// writes that are to fail. Takes no memory.
     pub fn of(alloc: Global, failing: Vec<u64>, most: usize) -> Self
         requires { 1 ≤ most }
         ensures written { ⟦<MemSink as Sink>⟧.written result ≡ Some [] }
@@ -62,15 +63,18 @@ impl Sink for MemSink {
 
     ghost faults = { λ s. s.faults };
 
-    ghost may_write = { λ before piece result now. TakesMost before result now piece × CountsWrite before result now };
+    ghost may_write = { λ before piece result now.
+        TakesMost before result now piece × CountsWrite before result now };
 
     fn write(&mut self, piece: &[u8]) -> Result<usize, Failed>
         ensures bound { IfOk result (λ n. n ≤ length piece.now) }
-        ensures bytes { Writes (Some (written_to self.old)) (Some (written_to self.new)) result piece.now }
+        ensures bytes { Writes (Some (written_to self.old)) (Some (written_to self.new))
+            result piece.now }
         ensures cause { HasCause (faults_at self.old) (faults_at self.new) result }
         ensures stalls { CountsStalls (faults_at self.old) (faults_at self.new) result piece.now }
 
-        // It takes as much as it may, and fails exactly where its number is to fail or where it raises `refused`.
+        // It takes as much as it may, and fails exactly where its number is to fail or where it
+        // raises `refused`.
         ensures takes { TakesMost self.old result self.new piece.now }
         ensures counts { CountsWrite self.old result self.new }
     {

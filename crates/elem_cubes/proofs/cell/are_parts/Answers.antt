@@ -2,9 +2,8 @@ use Rattle.std.proofs.Common.{◌≡◌, ◌∙◌, ap, sym, arith, rules, ◌+�
 use Rattle.std.specs.Int.{w32}
 use Rattle.std.specs.Prelude.{FitsSigned}
 use Rattle.std.proofs.lemmas.Int.{to_z-of_z}
-use Rattle.elem_cubes.specs.Cells.{cell_of}
+use Rattle.elem_cubes.specs.Cells.{factor_of, cell_of}
 use Rattle.elem_cubes.specs.Faces.{is_part, is_face}
-use Rattle.elem_cubes.proofs.Bits.{factor_of}
 use Rattle.elem_cubes.proofs.Making.{parts_step}
 use Rattle.elem_cubes.proofs.cell.are_parts.Goals as goal
 

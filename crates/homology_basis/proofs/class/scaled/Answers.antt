@@ -1,6 +1,3 @@
-use Rattle.std.proofs.Common.{◌≡◌, ◌*◌, ◌%◌, ℕ, ap, sym, ◌∙◌, arith, subst}
-use Rattle.std.proofs.Math.Nat.{mod-eq_of_lt}
-use Rattle.chains.specs.Terms.{coefficient}
 use Rattle.homology_basis.proofs.Beginning.{times_one}
 use Rattle.homology_basis.proofs.class.scaled.Goals as goal
 

@@ -1,5 +1,5 @@
 use Rattle.std.proofs.Common.{refl, inr}
-use Rattle.report.specs.declared.fault.Fault.TheVariants.{OutOfMemory}
+use Rattle.faults.specs.declared.fault.Fault.TheVariants.{OutOfMemory}
 use Rattle.tool.proofs.delivery.refuse.Goals as goal
 
 pub returns-in-Err : goal.returns-in-Err

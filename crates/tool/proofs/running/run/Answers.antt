@@ -1,4 +1,4 @@
-use Rattle.tool.proofs.Ending.{refusal_ends, delivery_ends, said_rests, never_ends_so, gains_nothing}
+use Rattle.tool.proofs.Ending.{refusal_ends, delivery_ends, refusal_is, never_answered, said_rests, never_ends_so, gains_nothing}
 use Rattle.tool.proofs.running.run.Goals as goal
 
 pub returns-in-Err-clause-exact : goal.returns-in-Err-clause-exact
@@ -37,3 +37,15 @@ returns-in-Err-clause-fault g c =
     let rests = said_rests (g.T.Tool.job tool) (g.met.T.Tool.one_judgement tool) (g.F.Files.seen c.args.files.now) (g.F.Files.seen c.answer.new.files)
     c.in-Err.fault c.refuse.ensures.0 c.in-Err.ensures.fault c.refuse.ensures.1 in
     λ not_done not_write. (c.refuse.ensures.0, c.refuse.ensures.2, rests, c.refuse.ensures.3, gains_nothing (g.O.Sink.written c.args.out.now))
+
+pub returns-in-Err-clause-refused : goal.returns-in-Err-clause-refused
+returns-in-Err-clause-refused g c =
+    let tool = c.args.tool.now in
+    refusal_is (g.T.Tool.job tool) (g.met.T.Tool.one_judgement tool) (g.F.Files.seen c.args.files.now) (g.F.Files.seen c.answer.new.files)
+    c.in-Err.fault c.refuse.ensures.0 c.refuse.result c.in-Err.ensures.fault c.refuse.ensures.1 c.refuse.ensures.2
+
+pub returns-in-Ok-clause-refused : goal.returns-in-Ok-clause-refused
+returns-in-Ok-clause-refused g c =
+    let tool = c.args.tool.now in
+    λ refusal only. absurd (never_answered (g.T.Tool.job tool) (g.met.T.Tool.one_judgement tool) (g.F.Files.seen c.args.files.now) (g.F.Files.seen c.answer.new.files)
+    c.in-Ok.answer c.in-Ok.ensures.right refusal only)

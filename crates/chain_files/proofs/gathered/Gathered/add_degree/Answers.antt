@@ -1,3 +1,4 @@
+-- What is left to show of `add_degree`.
 use Rattle.std.proofs.Common.{arith}
 use Rattle.chain_files.specs.Known.{Known}
 use Rattle.chain_files.proofs.Knowing.{known_degree}
@@ -14,4 +15,4 @@ invariant_of-self-2 c =
       last = c.self.inside.last;
     } in
     let known = known_degree s c.args.degree c.in-Ok.count c.self.invariant (omega arith) in
-    rw (c.in-Ok-extend_degrees.ensures.ok, c.in-Ok-extend_entries.ensures.ok, c.from-2.ensures) known
+    rw (c.in_ok-extend_degrees.ensures.ok, c.in-Ok-extend_entries.ensures.ok, c.from-2.ensures) known

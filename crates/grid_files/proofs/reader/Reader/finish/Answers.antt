@@ -9,12 +9,12 @@ pub returns-then-is_open : goal.returns-then-is_open
 returns-then-is_open c = λ set o r. (sym (c.is_open.ensures o r.opening) ∙ c.if-is_open.true, refl, refl)
 
 pub of_cells-requires-clause-alike : goal.of_cells-requires-clause-alike
-of_cells-requires-clause-alike c = rw c.in-Ok.ensures (keys_alike c.args.self.now.gathered c.requires.0 c.requires.2.gathered)
+of_cells-requires-clause-alike c = rw c.in_ok-cells.ensures (keys_alike c.args.self.now.gathered c.requires.0 c.requires.2.gathered)
 
 pub returns : goal.returns
 returns c = λ set o r. (
   sym (c.is_open.ensures o r.opening) ∙ c.if-is_open.false,
-  same_members c.in-Ok-of_cells.set set (c.in-Ok-of_cells.ensures.dimension ∙ r.gathered.dimension)
-      (same_sets c.in-Ok-of_cells.set.cells set.cells c.len-len.ensures.set.sorted r.gathered.is_set.sorted
-      (λ d. c.in-Ok-of_cells.ensures.members d ∙ ap (λ l. has cell_cmp l d) c.in-Ok.ensures ∙ r.gathered.members d)),
+  same_members c.in_ok-set.set set (c.in_ok-set.ensures.dimension ∙ r.gathered.dimension)
+      (same_sets c.in_ok-set.set.cells set.cells c.len-len.ensures.set.sorted r.gathered.is_set.sorted
+      (λ d. c.in_ok-set.ensures.members d ∙ ap (λ l. has cell_cmp l d) c.in_ok-cells.ensures ∙ r.gathered.members d)),
 )

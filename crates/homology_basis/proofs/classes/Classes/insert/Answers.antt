@@ -1,4 +1,4 @@
-use Rattle.std.proofs.Common.{◌≡◌, refl, ap, sym, ◌∙◌, List, arith, length}
+use Rattle.std.proofs.Common.{refl, ap, ◌∙◌, List}
 use Rattle.homology_basis.specs.Bases.{in_degree}
 use Rattle.homology_basis.specs.Classes.{ClassOf}
 use Rattle.homology_basis.proofs.ByDegree.{pushed, longer}

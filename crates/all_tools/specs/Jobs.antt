@@ -1,0 +1,75 @@
+-- What each tool is asked to do by words, as a job that is judged in one way.
+use Rattle.std.specs.Prelude.{ℕ, List, [], unwrap_or}
+use Rattle.command_line.specs.declared.form.ToolName.{ToolName}
+use Rattle.command_line.specs.declared.form.ToolName.TheVariants as tools
+use Rattle.command_line.specs.Words.{Request, first, second}
+use Rattle.loading.specs.Jobs.{Job, HasOneJudgement}
+use Rattle.set_tools.specs.declared.cubunion.Combination.{Combination}
+use Rattle.set_tools.specs.declared.cubunion.Combination.TheVariants.{Union, Intersection}
+use Rattle.set_tools.specs.declared.cubunion.CombinationJob.{CombinationJob}
+use Rattle.pair_tool.specs.declared.homcubes.PairJob.{PairJob}
+use Rattle.chain_tool.specs.declared.homchain.ChainJob.{ChainJob}
+use Rattle.set_tools.specs.Jobs as sets
+use Rattle.set_tools.proofs.Judging as of_sets
+use Rattle.pair_tool.specs.Jobs as pairs
+use Rattle.pair_tool.proofs.Judging as of_pairs
+use Rattle.chain_tool.specs.Jobs as chains
+use Rattle.chain_tool.proofs.Judging as of_chains
+
+-- ---- operands and options as the jobs of tools
+
+-- a set, or a set and a subset
+abbrev pub pair_of : Request → PairJob
+pair_of r = record {
+  x = first r.operands;
+  a = second r.operands;
+  modulus = r.options.modulus;
+  cycles = r.options.cycles;
+}
+
+-- a set alone
+abbrev pub x_of : Request → List ℕ
+x_of r = first r.operands
+
+-- two sets, both of which the form asks for
+abbrev pub two_files : Combination → Request → CombinationJob
+two_files combination r =
+    record { x = first r.operands; y = unwrap_or (second r.operands) []; combination = combination }
+
+abbrev pub chain_of : Request → ChainJob
+chain_of r =
+    record { file = first r.operands; modulus = r.options.modulus; cycles = r.options.cycles }
+
+-- ---- all tools
+
+-- a job, and that it is judged in one way
+pub record Judged : Type 1 where
+  pub job : Job
+  pub once : HasOneJudgement job
+
+abbrev pub judged : (job : Job) → HasOneJudgement job → Judged
+judged job once = record { job = job; once = once }
+
+abbrev judged_pair : PairJob → Judged
+judged_pair job = judged (pairs.pair_job job) (of_pairs.pair_once job)
+
+abbrev judged_combination : CombinationJob → Judged
+judged_combination job = judged (sets.combination_job job) (of_sets.combination_once job)
+
+abbrev judged_chain : ChainJob → Judged
+judged_chain job = judged (chains.chain_job job) (of_chains.chain_once job)
+
+abbrev pub judged_by : ToolName → Request → Judged
+judged_by tools.Homcubes r = judged_pair (pair_of r)
+judged_by tools.Cubunion r = judged_combination (two_files Union r)
+judged_by tools.Cubinter r = judged_combination (two_files Intersection r)
+judged_by tools.Cubnbhd r = judged (sets.neighbours_job (x_of r)) (of_sets.neighbours_once (x_of r))
+judged_by tools.Cubcells r = judged (sets.cells_job (x_of r)) (of_sets.cells_once (x_of r))
+judged_by tools.Homchain r = judged_chain (chain_of r)
+
+abbrev pub job_by : ToolName → Request → Job
+job_by tool r = (judged_by tool r).job
+
+-- what a command asks
+abbrev pub job_of : Request → Job
+job_of r = job_by r.tool r

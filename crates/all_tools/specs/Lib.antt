@@ -1,0 +1,3 @@
+-- What words ask of all tools.
+pub mod Jobs
+pub mod Lines

@@ -1,0 +1,27 @@
+-- What words ask for, and that it is judged in one way.
+use Rattle.std.specs.Prelude.{◌≢◌, ℕ, List, Result, Ok, Err, IfErr}
+use Rattle.faults.specs.declared.fault.Fault.{Fault}
+use Rattle.faults.specs.declared.status.Status.TheVariants.{Write}
+use Rattle.faults.specs.Statuses.{status_of}
+use Rattle.command_line.specs.Words.{Request, command_of}
+use Rattle.loading.specs.Jobs.{Job, HasOneJudgement}
+use Rattle.loading.specs.Refused.{refused_job}
+use Rattle.loading.proofs.Refused.{refused_once}
+use Rattle.all_tools.specs.Jobs.{judged_by, job_of}
+use Rattle.all_tools.proofs.Refusals.{words_refused_so}
+
+-- the job of a command, or to be refused
+abbrev pub asked_job : Result Request Fault → Job
+asked_job (Ok command) = job_of command
+asked_job (Err fault) = refused_job fault
+
+abbrev pub asked : List (List ℕ) → Job
+asked words = asked_job (command_of words)
+
+pub asked_once : (due : Result Request Fault) → IfErr due (λ fault. status_of fault ≢ Write)
+    → HasOneJudgement (asked_job due)
+asked_once (Ok command) before = (judged_by command.tool command).once
+asked_once (Err fault) before = refused_once fault before
+
+pub line_once : (words : List (List ℕ)) → HasOneJudgement (asked words)
+line_once words = asked_once (command_of words) (words_refused_so words)

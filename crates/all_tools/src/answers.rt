@@ -1,0 +1,67 @@
+//! From a command to its answer, for whichever tool it names.
+ghost use Rattle.loading.specs.Jobs.{Answers};
+ghost use Rattle.all_tools.specs.Jobs.{job_by, pair_of, two_files, chain_of};
+ghost use Rattle.pair_tool.specs.Jobs.{pair_job};
+ghost use Rattle.set_tools.specs.Jobs.{combination_job};
+ghost use Rattle.chain_tool.specs.Jobs.{chain_job};
+
+use crate::jobs::{chain_job, combination_job, pair_job};
+use chain_tool::homology_of_file;
+use command_line::{Command, ToolName};
+use faults::Fault;
+use loading::Answer;
+use outside::Files;
+use pair_tool::homology_of_pair;
+use set_tools::{Combination, combine};
+use std::alloc::Global;
+
+/// What a tool answers to a command, or the first refusal.
+pub fn answer_by<F: Files>(
+    alloc: Global,
+    files: &mut F,
+    tool: ToolName,
+    command: &Command,
+) -> Result<Answer, Fault>
+    ensures { Answers (job_by tool command.now) (F.seen files.old) (F.seen files.new) result }
+{
+    match tool {
+        ToolName::Homcubes => pair_answer(alloc, files, command),
+        ToolName::Cubunion => combination_answer(alloc, files, command, Combination::Union),
+        ToolName::Cubinter => combination_answer(alloc, files, command, Combination::Intersection),
+        ToolName::Cubnbhd => set_tools::neighbours(alloc, files, command.first()),
+        ToolName::Cubcells => set_tools::cells(alloc, files, command.first()),
+        ToolName::Homchain => chain_answer(alloc, files, command),
+    }
+}
+
+// The homology of a set or a pair.
+fn pair_answer<F: Files>(alloc: Global, files: &mut F, command: &Command) -> Result<Answer, Fault>
+    ensures { Answers (pair_job (pair_of command.now))
+        (F.seen files.old) (F.seen files.new) result }
+{
+    let job = pair_job(alloc, command)?;
+    homology_of_pair(alloc, files, &job)
+}
+
+// The union or the intersection of two sets.
+fn combination_answer<F: Files>(
+    alloc: Global,
+    files: &mut F,
+    command: &Command,
+    combination: Combination,
+) -> Result<Answer, Fault>
+    ensures { Answers (combination_job (two_files combination command.now))
+        (F.seen files.old) (F.seen files.new) result }
+{
+    let job = combination_job(alloc, command, combination)?;
+    combine(alloc, files, &job)
+}
+
+// The homology of a chain file.
+fn chain_answer<F: Files>(alloc: Global, files: &mut F, command: &Command) -> Result<Answer, Fault>
+    ensures { Answers (chain_job (chain_of command.now))
+        (F.seen files.old) (F.seen files.new) result }
+{
+    let job = chain_job(alloc, command)?;
+    homology_of_file(alloc, files, &job)
+}

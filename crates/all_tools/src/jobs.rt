@@ -1,0 +1,57 @@
+//! Commands as the jobs of tools.
+ghost use Rattle.std.specs.Prelude.{Ok};
+ghost use Rattle.loading.specs.Steps.{IsDue};
+ghost use Rattle.all_tools.specs.Jobs.{pair_of, two_files, chain_of};
+
+use basis_reports::Modulus;
+use chain_tool::ChainJob;
+use command_line::Command;
+use faults::{Fault, Name};
+use pair_tool::PairJob;
+use set_tools::{Combination, CombinationJob};
+use std::alloc::Global;
+
+/// A set, or a set and a subset, whose homology is wanted.
+pub fn pair_job(alloc: Global, command: &Command) -> Result<PairJob, Fault>
+    ensures { IsDue (Ok (pair_of command.now)) result }
+{
+    let x = command.first().copy(alloc)?;
+    let a = match command.second() {
+        Some(a) => Some(a.copy(alloc)?),
+        None => None,
+    };
+    Ok(PairJob {
+        x,
+        a,
+        modulus: Modulus::of_table(command.options().modulus()),
+        cycles: command.options().cycles(),
+    })
+}
+
+/// Two sets that are to be combined.
+pub fn combination_job(
+    alloc: Global,
+    command: &Command,
+    combination: Combination,
+) -> Result<CombinationJob, Fault>
+    ensures { IsDue (Ok (two_files combination command.now)) result }
+{
+    let x = command.first().copy(alloc)?;
+    let y = match command.second() {
+        Some(y) => y.copy(alloc)?,
+        None => Name::of(alloc, "")?,
+    };
+    Ok(CombinationJob { x, y, combination })
+}
+
+/// A chain file whose homology is wanted.
+pub fn chain_job(alloc: Global, command: &Command) -> Result<ChainJob, Fault>
+    ensures { IsDue (Ok (chain_of command.now)) result }
+{
+    let file = command.first().copy(alloc)?;
+    Ok(ChainJob {
+        file,
+        modulus: Modulus::of_table(command.options().modulus()),
+        cycles: command.options().cycles(),
+    })
+}

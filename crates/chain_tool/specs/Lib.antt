@@ -1,0 +1,3 @@
+-- What the tool on chain files is asked to do.
+pub mod Contents
+pub mod Jobs

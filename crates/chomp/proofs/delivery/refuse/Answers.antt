@@ -1,6 +1,0 @@
-use Rattle.std.proofs.Common.{refl, inr}
-use Rattle.report.specs.declared.fault.Fault.TheVariants.{OutOfMemory}
-use Rattle.chomp.proofs.delivery.refuse.Goals as goal
-
-pub returns-in-Err : goal.returns-in-Err
-returns-in-Err g c = (OutOfMemory, inr refl, refl, c.say-in-Err.ensures)

@@ -1,6 +1,0 @@
-use Rattle.std.proofs.Common.{◌≡◌, drop, decimal}
-use Rattle.chomp.specs.Forms.{named}
-use Rattle.chomp.proofs.modulus.first_named.Given as goal
-
-abbrev pub invariant-loop-number : goal.invariant-loop-number
-invariant-loop-number l = named decimal (drop l.number-index l.numbers) l.word ≡ named decimal l.numbers l.word

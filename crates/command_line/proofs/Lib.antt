@@ -1,0 +1,4 @@
+pub mod Tables
+pub mod Wholes
+pub mod Orders
+pub mod Values

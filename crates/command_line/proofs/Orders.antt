@@ -1,0 +1,136 @@
+-- Options that change places.
+use Rattle.std.proofs.Common.{◌≡◌, ℕ, Bool, true, false, cond, ◌||◌, ◌&&◌, not, List, [], ◌∷◌, ◌++◌, Option, None, Some, refl, sym, ap, ◌∙◌}
+use Rattle.std.specs.Prelude.{nat_le, length}
+use Rattle.std.specs.Option.{option_map, option_and_then}
+use Rattle.command_line.specs.declared.choice.Choice.{Choice}
+use Rattle.command_line.specs.declared.choice.Choice.TheVariants.{Modulus, Cycles}
+use Rattle.command_line.specs.declared.choice.Setting.{Setting}
+use Rattle.command_line.specs.declared.word.Next.TheVariants.{Anything}
+use Rattle.command_line.specs.Forms.{Row, Spoken, form_named, same_choice, is_set, are_once, words_read}
+use Rattle.command_line.specs.Words.{modulus_of, modulus_in, with_modulus, with_options, chosen_of, request_of, formed, command_with, command_of}
+use Rattle.command_line.specs.Laws.{AreWhole}
+use Rattle.command_line.proofs.Wholes.{onto, behind_whole}
+
+-- lists of options that say the same
+record SaySame (a b : List Setting) : Type 0 where
+  set : (choice : Choice) → is_set choice a ≡ is_set choice b
+  once : are_once a ≡ are_once b
+  modulus : are_once a ≡ true → modulus_in a ≡ modulus_in b
+
+same_refl : (a : List Setting) → SaySame a a
+same_refl a = record { set = λ choice. refl; once = refl; modulus = λ e. refl }
+
+same_trans : (a b c : List Setting) → SaySame a b → SaySame b c → SaySame a c
+same_trans a b c p q = record { set = λ choice. p.set choice ∙ q.set choice; once = p.once ∙ q.once; modulus = λ e. p.modulus e ∙ q.modulus (sym p.once ∙ e) }
+
+and_right : (x y : Bool) → (x && y) ≡ true → y ≡ true
+and_right true y e = e
+and_right false y e = cc
+
+same_cons : (s : Setting) (a b : List Setting) → SaySame a b → SaySame (s ∷ a) (s ∷ b)
+same_cons s a b p = record {
+  set = λ choice. ap (λ x. same_choice s.choice choice || x) (p.set choice);
+  once = ap (λ x. not x && are_once a) (p.set s.choice) ∙ ap (λ x. not (is_set s.choice b) && x) p.once;
+  modulus = λ e. ap (modulus_of s.choice s.value) (p.modulus (and_right (not (is_set s.choice a)) (are_once a) e));
+}
+
+or_swap : (x y z : Bool) → (x || (y || z)) ≡ (y || (x || z))
+or_swap true true z = refl
+or_swap true false z = refl
+or_swap false true z = refl
+or_swap false false z = refl
+
+once_swap : (q r a b o : Bool) → q ≡ r → (not (q || a) && (not b && o)) ≡ (not (r || b) && (not a && o))
+once_swap true true a b o e = refl
+once_swap false false true true o e = refl
+once_swap false false true false o e = refl
+once_swap false false false true o e = refl
+once_swap false false false false o e = refl
+once_swap true false a b o e = cc
+once_swap false true a b o e = cc
+
+choice_swap : (c d : Choice) → same_choice c d ≡ same_choice d c
+choice_swap Modulus Modulus = refl
+choice_swap Modulus Cycles = refl
+choice_swap Cycles Modulus = refl
+choice_swap Cycles Cycles = refl
+
+modulus_swap : (c d : Choice) (x y : Option (List ℕ)) (m : Option ℕ) (a : Bool) (rest : Bool) → (not (same_choice d c || a) && rest) ≡ true
+    → modulus_of c x (modulus_of d y m) ≡ modulus_of d y (modulus_of c x m)
+modulus_swap Modulus Modulus x y m a rest e = cc
+modulus_swap Modulus Cycles x y m a rest e = refl
+modulus_swap Cycles Modulus x y m a rest e = refl
+modulus_swap Cycles Cycles x y m a rest e = refl
+
+same_swap : (s t : Setting) (v : List Setting) → SaySame (s ∷ t ∷ v) (t ∷ s ∷ v)
+same_swap s t v = record {
+  set = λ choice. or_swap (same_choice s.choice choice) (same_choice t.choice choice) (is_set choice v);
+  once = once_swap (same_choice t.choice s.choice) (same_choice s.choice t.choice) (is_set s.choice v) (is_set t.choice v) (are_once v) (choice_swap t.choice s.choice);
+  modulus = λ e. modulus_swap s.choice t.choice s.value t.value (modulus_in v) (is_set s.choice v) (not (is_set t.choice v) && are_once v) e;
+}
+
+same_past : (s : Setting) (y v : List Setting) → SaySame (s ∷ (y ++ v)) (y ++ (s ∷ v))
+same_past s [] v = same_refl (s ∷ v)
+same_past s (t ∷ y) v = same_trans (s ∷ t ∷ (y ++ v)) (t ∷ s ∷ (y ++ v)) (t ∷ (y ++ (s ∷ v))) (same_swap s t (y ++ v)) (same_cons t (s ∷ (y ++ v)) (y ++ (s ∷ v)) (same_past s y v))
+
+same_blocks : (x y v : List Setting) → SaySame (x ++ (y ++ v)) (y ++ (x ++ v))
+same_blocks [] y v = same_refl (y ++ v)
+same_blocks (s ∷ x) y v = same_trans (s ∷ (x ++ (y ++ v))) (s ∷ (y ++ (x ++ v))) (y ++ (s ∷ (x ++ v))) (same_cons s (x ++ (y ++ v)) (y ++ (x ++ v)) (same_blocks x y v)) (same_past s y (x ++ v))
+
+same_behind : (u a b : List Setting) → SaySame a b → SaySame (u ++ a) (u ++ b)
+same_behind [] a b p = p
+same_behind (s ∷ u) a b p = same_cons s (u ++ a) (u ++ b) (same_behind u a b p)
+
+module _ (form : Row) (o : List (List ℕ)) (a b : List Setting) (p : SaySame a b) where
+  abbrev of : List Setting → Spoken
+  of ss = record { operands = o; settings = ss }
+
+  chosen_same : are_once a ≡ true → chosen_of form (of a) ≡ chosen_of form (of b)
+  chosen_same e = ap (option_map (with_options form.tool o))
+      (ap (λ cycles. option_map (with_modulus cycles) (modulus_in a)) (p.set Cycles) ∙ ap (option_map (with_modulus (is_set Cycles b))) (p.modulus e))
+
+  once_same : (x y : Bool) → are_once a ≡ x → x ≡ y → option_and_then (chosen_of form) (cond x (Some (of a)) None) ≡ option_and_then (chosen_of form) (cond y (Some (of b)) None)
+  once_same true true e f = chosen_same e
+  once_same false false e f = refl
+  once_same true false e f = cc
+  once_same false true e f = cc
+
+  fits_same : (few many : Bool) → option_and_then (chosen_of form) (cond (few && many && are_once a) (Some (of a)) None) ≡ option_and_then (chosen_of form) (cond (few && many && are_once b) (Some (of b)) None)
+  fits_same false many = refl
+  fits_same true false = refl
+  fits_same true true = once_same (are_once a) (are_once b) refl p.once
+
+  request_same : request_of form (of a) ≡ request_of form (of b)
+  request_same = fits_same (nat_le form.fewest (length o)) (nat_le (length o) form.most)
+
+module _ (form : Row) (so_far these those : Spoken) (none : these.operands ≡ []) where
+  operands_same : (m : Spoken) → (onto so_far (onto these (onto those m))).operands ≡ (onto so_far (onto those (onto these m))).operands
+  operands_same m = ap (λ os. so_far.operands ++ (os ++ (those.operands ++ m.operands))) none ∙ sym (ap (λ os. so_far.operands ++ (those.operands ++ (os ++ m.operands))) none)
+
+  request_swapped : (m : Spoken) → request_of form (onto so_far (onto these (onto those m))) ≡ request_of form (onto so_far (onto those (onto these m)))
+  request_swapped m =
+      ap (λ os. request_of form (record { operands = os; settings = so_far.settings ++ (these.settings ++ (those.settings ++ m.settings)) })) (operands_same m)
+      ∙ request_same form (onto so_far (onto those (onto these m))).operands (so_far.settings ++ (these.settings ++ (those.settings ++ m.settings))) (so_far.settings ++ (those.settings ++ (these.settings ++ m.settings)))
+      (same_behind so_far.settings (these.settings ++ (those.settings ++ m.settings)) (those.settings ++ (these.settings ++ m.settings)) (same_blocks these.settings those.settings m.settings))
+
+  rest_swapped : (r : Option Spoken) → option_and_then (request_of form) (option_map (onto so_far) (option_map (onto these) (option_map (onto those) r)))
+      ≡ option_and_then (request_of form) (option_map (onto so_far) (option_map (onto those) (option_map (onto these) r)))
+  rest_swapped None = refl
+  rest_swapped (Some m) = request_swapped m
+
+three : (form : Row) (a b c rest : List (List ℕ)) (x y z : Spoken) → AreWhole form a x → AreWhole form b y → AreWhole form c z
+    → words_read form Anything (a ++ (b ++ (c ++ rest))) ≡ option_map (onto x) (option_map (onto y) (option_map (onto z) (words_read form Anything rest)))
+three form a b c rest x y z p q r =
+    behind_whole form a (b ++ (c ++ rest)) x p
+    ∙ ap (option_map (onto x)) (behind_whole form b (c ++ rest) y q ∙ ap (option_map (onto y)) (behind_whole form c rest z r))
+
+pub options_change_places : (name : List ℕ) (form : Row) → form_named name ≡ Some form
+    → (before options others after : List (List ℕ)) (so_far these those : Spoken)
+    → AreWhole form before so_far → AreWhole form options these → AreWhole form others those → these.operands ≡ []
+    → command_of (name ∷ (before ++ (options ++ (others ++ after)))) ≡ command_of (name ∷ (before ++ (others ++ (options ++ after))))
+options_change_places name form named before options others after so_far these those b o t none =
+    ap (λ n. command_with n (before ++ (options ++ (others ++ after)))) named
+    ∙ ap (λ r. formed form (option_and_then (request_of form) r)) (three form before options others after so_far these those b o t)
+    ∙ ap (formed form) (rest_swapped form so_far these those none (words_read form Anything after))
+    ∙ sym (ap (λ r. formed form (option_and_then (request_of form) r)) (three form before others options after so_far those these b t o))
+    ∙ sym (ap (λ n. command_with n (before ++ (others ++ (options ++ after)))) named)

@@ -1,0 +1,27 @@
+-- The first entry of a list with a name, and whether each entry of a list stands once, entry by entry.
+use Rattle.std.proofs.Common.{◌≡◌, ℕ, zero, suc, ◌+◌, ◌<◌, Bool, true, false, cond, ◌||◌, ◌-◌, List, [], ◌∷◌, length, get_or, drop, take, length-drop, refl, sym, ap, ◌∙◌, arith, eqb, eq-eqb}
+use Rattle.std.specs.List.{list_any}
+use Rattle.std.proofs.lemmas.List.{drop_more, take_all}
+use Rattle.command_line.specs.declared.choice.Setting.{Setting}
+use Rattle.command_line.specs.declared.choice.Choice.{Choice}
+use Rattle.command_line.specs.Forms.{is_set, are_once}
+use Rattle.command_line.specs.Words.{modulus_of, modulus_in}
+
+pub listed_at : (ns : List ℕ) (i : ℕ) → i < length ns → list_any (λ q. eqb q (get_or ns i 0)) ns ≡ true
+listed_at [] i l = absurd (omega arith)
+listed_at (n ∷ ns) zero l = rw (eq-eqb n n refl) refl
+listed_at (n ∷ ns) (suc i) l = or_true (eqb n (get_or ns i 0)) (list_any (λ q. eqb q (get_or ns i 0)) ns) (listed_at ns i (omega arith))
+  where
+    or_true : (a b : Bool) → b ≡ true → (a || b) ≡ true
+    or_true true b e = refl
+    or_true false b e = e
+
+pub once_at : (ss : List Setting) (i : ℕ) (s : Setting) (b : Bool) → i < length ss → s ≡ get_or ss i s → b ≡ is_set s.choice (take (length ss - (i + 1)) (drop (i + 1) ss)) → are_once (drop i ss) ≡ cond b false (are_once (drop (i + 1) ss))
+once_at ss i s b l e t = ap are_once (drop_more ss i s l) ∙ ap (λ r. are_once (r ∷ drop (i + 1) ss)) (sym e) ∙ tested b (t ∙ ap (is_set s.choice) (take_all (length ss - (i + 1)) (drop (i + 1) ss) (omega (arith, length-drop (i + 1) ss))))
+  where
+    tested : (b : Bool) → b ≡ is_set s.choice (drop (i + 1) ss) → are_once (s ∷ drop (i + 1) ss) ≡ cond b false (are_once (drop (i + 1) ss))
+    tested true t = rw (← t) refl
+    tested false t = rw (← t) refl
+
+pub modulus_at : (ss : List Setting) (i : ℕ) (s : Setting) (choice : Choice) → i < length ss → s ≡ get_or ss i s → s.choice ≡ choice → modulus_in (drop i ss) ≡ modulus_of choice s.value (modulus_in (drop (i + 1) ss))
+modulus_at ss i s choice l e is = ap modulus_in (drop_more ss i s l) ∙ ap (λ r. modulus_in (r ∷ drop (i + 1) ss)) (sym e) ∙ ap (λ c. modulus_of c s.value (modulus_in (drop (i + 1) ss))) is

@@ -1,0 +1,4 @@
+-- What the words of the command line say, and laws on it.
+pub mod Forms
+pub mod Words
+pub mod Laws

@@ -1,0 +1,92 @@
+//! What all words after a tool's name say.
+ghost use Rattle.std.specs.Prelude.{◌≡◌, ◌≤◌, length, true, OnOk};
+ghost use Rattle.command_line.specs.Forms.{nothing_spoken, after, is_set, are_once, fits};
+
+use crate::choice::{Choice, Setting};
+use crate::form::Form;
+use crate::word::Said;
+use faults::Name;
+use std::alloc::{AllocError as NoMemory, Global};
+use std::marker::Model;
+
+/// What words say: the operands and the options, each in their order.
+#[derive(Drop)]
+pub struct Arguments {
+    operands: Vec<Name>,
+    settings: Vec<Setting>,
+}
+
+impl Model for Arguments {
+    ghost use Rattle.command_line.specs.Forms.{Spoken};
+
+    ghost Value = { Spoken };
+
+    ghost view = { λ a. record { operands = a.operands.items; settings = a.settings.items } };
+}
+
+impl Arguments {
+    /// Nothing was said.
+    pub fn new(alloc: Global) -> Arguments
+        ensures { result ≡ nothing_spoken }
+    {
+        Arguments {
+            operands: Vec::new(alloc),
+            settings: Vec::new(alloc),
+        }
+    }
+
+    /// What one more word says.
+    pub fn add(&mut self, said: Said) -> Result<(), NoMemory>
+        ensures { OnOk result (self.new ≡ after self.old said) }
+    {
+        match said {
+            Said::Nothing => {}
+            Said::Operand(name) => self.operands.push(name)?,
+            Said::Set(setting) => self.settings.push(setting)?,
+        }
+        Ok(())
+    }
+
+    /// Whether there are as many operands as the form takes, and each option once.
+    pub fn fits(&self, form: &Form) -> bool
+        ensures fits { result ≡ fits form.now self.now }
+        ensures some { result ≡ true → 1 ≤ length self.now.operands }
+    {
+        form.fewest() <= self.operands.len()
+            && self.operands.len() <= form.most()
+            && are_once(&self.settings)
+    }
+
+    /// The options.
+    pub fn settings(&self) -> &[Setting]
+        ensures { result.now ≡ self.now.settings }
+    {
+        self.settings.as_slice()
+    }
+
+    /// The operands.
+    pub fn into_operands(self) -> Vec<Name>
+        ensures { result.items ≡ self.operands }
+    {
+        self.operands
+    }
+}
+
+// Whether each option is set once.
+fn are_once(settings: &[Setting]) -> bool
+    ensures { result ≡ are_once settings.now }
+{
+    for (at, setting) in settings.iter().enumerate() {
+        if is_set(setting.choice, &settings[at + 1..]) {
+            return false;
+        }
+    }
+    true
+}
+
+/// Whether the option is set.
+pub fn is_set(choice: Choice, settings: &[Setting]) -> bool
+    ensures { result ≡ is_set choice settings.now }
+{
+    settings.iter().any(|setting| setting.choice.is(choice))
+}

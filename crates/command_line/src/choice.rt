@@ -1,0 +1,54 @@
+//! The options of tools.
+ghost use Rattle.std.specs.Prelude.{◌≡◌};
+ghost use Rattle.command_line.specs.Forms.{option_name, takes_value, same_choice};
+
+use faults::Name;
+
+/// An option of a tool.
+#[derive(Clone, Copy, Debug, PartialEq, Eq)]
+pub enum Choice {
+    /// The modulus of the coefficients.
+    Modulus,
+    /// That the cycles are printed.
+    Cycles,
+}
+
+/// An option as it stands among the words, with its value where it takes one.
+#[derive(Drop)]
+pub struct Setting {
+    pub choice: Choice,
+    pub value: Option<Name>,
+}
+
+impl Choice {
+    /// The option's name.
+    pub fn name(self) -> &'static str
+        ensures { result.now ≡ option_name self }
+    {
+        match self {
+            Choice::Modulus => "--mod",
+            Choice::Cycles => "--cycles",
+        }
+    }
+
+    /// Whether the option takes a value.
+    pub fn takes_value(self) -> bool
+        ensures { result ≡ takes_value self }
+    {
+        match self {
+            Choice::Modulus => true,
+            Choice::Cycles => false,
+        }
+    }
+
+    /// Whether it is that option.
+    pub fn is(self, other: Choice) -> bool
+        ensures { result ≡ same_choice self other }
+    {
+        match (self, other) {
+            (Choice::Modulus, Choice::Modulus) => true,
+            (Choice::Cycles, Choice::Cycles) => true,
+            _ => false,
+        }
+    }
+}

@@ -1,0 +1,76 @@
+//! What words ask for.
+ghost use Rattle.std.specs.Prelude.{◌≡◌};
+ghost use Rattle.std.specs.Option.{option_map};
+ghost use Rattle.command_line.specs.Words.{request_of, first, second};
+
+use crate::arguments::Arguments;
+use crate::form::{Form, ToolName};
+use crate::options::Options;
+use faults::Name;
+use std::marker::Model;
+
+/// What words ask for: a tool, its operands, one at least, and what the options say.
+#[derive(Drop)]
+pub struct Command {
+    tool: ToolName,
+    operands: Vec<Name>,
+    options: Options,
+}
+
+impl Model for Command {
+    ghost use Rattle.std.specs.Prelude.{◌≤◌, length};
+    ghost use Rattle.command_line.specs.Words.{Request, with_options};
+
+    ghost Value = { Request };
+
+    ghost view = { λ c. with_options c.tool c.operands.items c.options };
+
+    ghost invariant = { λ c. 1 ≤ length c.operands.items };
+}
+
+impl Command {
+    /// What arguments ask of a tool, where they are of its form.
+    pub fn of(form: &Form, arguments: Arguments) -> Option<Command>
+        ensures { result ≡ request_of form.now arguments }
+    {
+        if !arguments.fits(form) {
+            return None;
+        }
+        let tool = form.tool();
+        let options = Options::of(arguments.settings())?;
+        let operands = arguments.into_operands();
+        Some(Command {
+            tool,
+            operands,
+            options,
+        })
+    }
+
+    /// The tool.
+    pub fn tool(&self) -> ToolName
+        ensures { result ≡ self.now.tool }
+    {
+        self.tool
+    }
+
+    /// The first operand.
+    pub fn first(&self) -> &Name
+        ensures { result.now ≡ first self.now.operands }
+    {
+        &self.operands[0]
+    }
+
+    /// The second operand, where there is one.
+    pub fn second(&self) -> Option<&Name>
+        ensures { option_map (λ name. name.now) result ≡ second self.now.operands }
+    {
+        self.operands.get(1)
+    }
+
+    /// What the options say.
+    pub fn options(&self) -> &Options
+        ensures { result.now ≡ self.now.options }
+    {
+        &self.options
+    }
+}

@@ -1,0 +1,72 @@
+//! What the options say.
+ghost use Rattle.std.specs.Prelude.{◌≡◌, IfSome};
+ghost use Rattle.field_mod.specs.Moduli.{IsModulus};
+ghost use Rattle.command_line.specs.Words.{modulus_in, options_in};
+
+use crate::arguments::is_set;
+use crate::choice::{Choice, Setting};
+use crate::modulus::modulus_named;
+use std::marker::Model;
+
+/// What the options say, with what they leave open by its usual value.
+#[derive(Debug, Drop)]
+pub struct Options {
+    modulus: u16,
+    cycles: bool,
+}
+
+impl Model for Options {
+    ghost use Rattle.field_mod.specs.Moduli.{IsModulus};
+    ghost use Rattle.command_line.specs.Words.{Chosen};
+
+    ghost Value = { Chosen };
+
+    ghost view = { λ o. record { modulus = o.modulus; cycles = o.cycles } };
+
+    ghost invariant = { λ o. IsModulus o.modulus };
+}
+
+impl Options {
+    /// What the options say as they stand among the words.
+    pub fn of(settings: &[Setting]) -> Option<Options>
+        ensures { result ≡ options_in settings.now }
+    {
+        let modulus = modulus_in(settings)?;
+        let cycles = is_set(Choice::Cycles, settings);
+        Some(Options { modulus, cycles })
+    }
+
+    /// The modulus of the coefficients.
+    pub fn modulus(&self) -> u16
+        ensures value { result ≡ self.now.modulus }
+        ensures table { IsModulus self.now.modulus }
+    {
+        self.modulus
+    }
+
+    /// Whether the cycles are printed.
+    pub fn cycles(&self) -> bool
+        ensures { result ≡ self.now.cycles }
+    {
+        self.cycles
+    }
+}
+
+// The modulus that the options set; without one it is 2.
+fn modulus_in(settings: &[Setting]) -> Option<u16>
+    ensures value { result ≡ modulus_in settings.now }
+    ensures table { IfSome result IsModulus }
+{
+    for setting in settings {
+        match setting.choice {
+            Choice::Modulus => {
+                return match &setting.value {
+                    Some(word) => modulus_named(word.as_str()),
+                    None => None,
+                };
+            }
+            Choice::Cycles => {}
+        }
+    }
+    Some(2)
+}

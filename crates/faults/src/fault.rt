@@ -1,0 +1,174 @@
+//! Why a run did not print its report, and the line that it prints then.
+ghost use Rattle.std.specs.Prelude.{◌≡◌, ◌++◌, IfOk, OnOk};
+ghost use Rattle.faults.specs.FaultText.{fault_text};
+
+use crate::{Cause, LimitName, Name};
+use itoa::{Buffer, Integer};
+use std::alloc::{AllocError as NoMemory, Global};
+use thiserror::Error;
+
+/// Why a run did not print its report. The line that a run prints for it is `fault_text`.
+#[derive(Debug, Drop, Error)]
+pub enum Fault {
+    /// There is no first word, or it names no tool.
+    #[error("words: no tool of that name")]
+    NoTool,
+    /// The words after the tool's name are not of a form of that tool.
+    #[error("words: not a form of {tool}")]
+    NotAForm {
+        tool: Name,
+    },
+    /// A read of a file failed.
+    #[error("cannot read {name}")]
+    CannotRead {
+        name: Name,
+    },
+    /// The text of a file is refused at a place, counted in bytes from 0.
+    #[error("{name}: byte {place}: {cause}")]
+    BadText {
+        name: Name,
+        place: u64,
+        cause: Cause,
+    },
+    /// In a chain file the boundary of the boundary of a generator of this degree has a coefficient
+    /// that is not 0 at another generator. Generators are numbered in their degrees from 1.
+    #[error("{name}: dimension {degree}: # {generator}: boundary of boundary has {value} * {at}")]
+    NotComplex {
+        name: Name,
+        degree: u8,
+        generator: u32,
+        value: u16,
+        at: u32,
+    },
+    /// The cells of a file have another embedding dimension than those of the files before it.
+    #[error("{name}: dimension {found}, but {before} before")]
+    Dimension {
+        name: Name,
+        found: u8,
+        before: u8,
+    },
+    /// A count goes past its limit, which is this number.
+    #[error("limit: {count}: {number}")]
+    Limit {
+        count: LimitName,
+        number: u64,
+    },
+    /// A write to standard output failed.
+    #[error("cannot write standard output")]
+    CannotWriteOut,
+    /// Memory ran out.
+    #[error("out of memory")]
+    OutOfMemory,
+}
+
+impl From<NoMemory> for Fault {
+    ghost use Rattle.faults.specs.declared.fault.Fault.TheVariants.{OutOfMemory};
+
+    ghost from_gives = { λ _ fault. fault ≡ OutOfMemory };
+
+    fn from(_: NoMemory) -> Fault {
+        Fault::OutOfMemory
+    }
+}
+
+/// The line that is printed for a fault, with its line feed.
+pub fn fault_text(alloc: Global, fault: &Fault) -> Result<Vec<u8>, NoMemory>
+    ensures { IfOk result (λ line. line.items ≡ fault_text fault.now) }
+{
+    match fault {
+        Fault::NoTool => Vec::from_slice(alloc, b"error: words: no tool of that name\n"),
+        Fault::NotAForm { tool } => frame(alloc, b"error: words: not a form of ", tool, b"\n"),
+        Fault::CannotRead { name } => frame(alloc, b"error: cannot read ", name, b"\n"),
+        Fault::BadText { name, place, cause } => bad_text(alloc, name, *place, *cause),
+        Fault::NotComplex {
+            name,
+            degree,
+            generator,
+            value,
+            at,
+        } => not_complex_text(alloc, name, *degree, *generator, *value, *at),
+        Fault::Dimension {
+            name,
+            found,
+            before,
+        } => dimension_text(alloc, name, *found, *before),
+        Fault::Limit { count, number } => limit_text(alloc, *count, *number),
+        Fault::CannotWriteOut => Vec::from_slice(alloc, b"error: cannot write standard output\n"),
+        Fault::OutOfMemory => Vec::from_slice(alloc, b"error: out of memory\n"),
+    }
+}
+
+// A name between two texts.
+fn frame(alloc: Global, before: &[u8], name: &Name, after: &[u8]) -> Result<Vec<u8>, NoMemory>
+    ensures { IfOk result (λ line. line.items ≡ before.now ++ name.now ++ after.now) }
+{
+    let mut line = Vec::from_slice(alloc, before)?;
+    line.extend_from_slice(name.as_str().as_bytes())?;
+    line.extend_from_slice(after)?;
+    Ok(line)
+}
+
+// Adds a text and a number.
+fn put_after<I: Integer>(to: &mut Vec<u8>, before: &[u8], number: I) -> Result<(), NoMemory>
+    ensures { OnOk result (to.new.items ≡ to.old.items ++ (before.now ++ I.text number)) }
+{
+    let mut buffer = Buffer::new();
+    to.extend_from_slice(before)?;
+    to.extend_from_slice(buffer.format(number).as_bytes())
+}
+
+// The line on a text that is refused.
+fn bad_text(alloc: Global, name: &Name, place: u64, cause: Cause) -> Result<Vec<u8>, NoMemory>
+    ensures { IfOk result (λ line. line.items ≡ fault_text (Fault.BadText name.now place cause)) }
+{
+    let mut line = frame(alloc, b"error: ", name, b": byte ")?;
+    put_after(&mut line, b"", place)?;
+    line.extend_from_slice(b": ")?;
+    line.extend_from_slice(cause.as_str().as_bytes())?;
+    line.extend_from_slice(b"\n")?;
+    Ok(line)
+}
+
+// The line on a boundary of a boundary that is not 0.
+fn not_complex_text(
+    alloc: Global,
+    name: &Name,
+    degree: u8,
+    generator: u32,
+    value: u16,
+    at: u32,
+) -> Result<Vec<u8>, NoMemory>
+    ensures { IfOk result
+        (λ line. line.items ≡ fault_text (Fault.NotComplex name.now degree generator value at)) }
+{
+    let mut line = frame(alloc, b"error: ", name, b": dimension ")?;
+    put_after(&mut line, b"", degree)?;
+    put_after(&mut line, b": # ", generator)?;
+    put_after(&mut line, b": boundary of boundary has ", value)?;
+    put_after(&mut line, b" * ", at)?;
+    line.extend_from_slice(b"\n")?;
+    Ok(line)
+}
+
+// The line on two dimensions.
+fn dimension_text(alloc: Global, name: &Name, found: u8, before: u8) -> Result<Vec<u8>, NoMemory>
+    ensures { IfOk result
+        (λ line. line.items ≡ fault_text (Fault.Dimension name.now found before)) }
+{
+    let mut line = frame(alloc, b"error: ", name, b": dimension ")?;
+    put_after(&mut line, b"", found)?;
+    put_after(&mut line, b", but ", before)?;
+    line.extend_from_slice(b" before\n")?;
+    Ok(line)
+}
+
+// The line on a limit.
+fn limit_text(alloc: Global, count: LimitName, number: u64) -> Result<Vec<u8>, NoMemory>
+    ensures { IfOk result (λ line. line.items ≡ fault_text (Fault.Limit count number)) }
+{
+    let mut line = Vec::from_slice(alloc, b"error: limit: ")?;
+    line.extend_from_slice(count.as_str().as_bytes())?;
+    put_after(&mut line, b": ", number)?;
+    line.extend_from_slice(b"\n")?;
+    Ok(line)
+}

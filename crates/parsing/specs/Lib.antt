@@ -1,0 +1,1 @@
+-- What the parse needs beyond the definitions of command_line: nothing.
