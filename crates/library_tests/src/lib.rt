@@ -16,6 +16,8 @@ mod fault_tests;
 #[cfg(test)]
 mod field_tests;
 #[cfg(test)]
+mod map_file_tests;
+#[cfg(test)]
 mod matrix_tests;
 #[cfg(test)]
 mod outside_tests;
@@ -29,7 +31,3 @@ mod set_limit_tests;
 mod set_tests;
 #[cfg(test)]
 mod set_writing_tests;
-#[cfg(test)]
-mod map_file_tests;
-#[cfg(test)]
-mod value_tests;
