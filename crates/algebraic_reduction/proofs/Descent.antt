@@ -5,13 +5,13 @@ use Rattle.std.proofs.lemmas.Bool.{cases_eq}
 use Rattle.std.proofs.lemmas.List.{take_more, take_all}
 use Rattle.field_mod.specs.Modular.{Same, minus}
 use Rattle.field_mod.proofs.Modular.{same_by, same_refl, same_sym, same_trans, same-add, same-scale, same-mul}
-use Rattle.algebraic_reduction.specs.Maps.{IsNoB, projected, Descent}
+use Rattle.algebraic_reduction.specs.Maps.{IsNoB, projected, weight_at, Descent}
 use Rattle.algebraic_reduction.specs.Reduction.{Step, IsBoundary, IsUnpaired, left_all, project, project_all, AreSteps}
 use Rattle.algebraic_reduction.specs.Laws.{AreApart}
 use Rattle.algebraic_reduction.specs.Kept.{KeptStep, steps_of, AreKept, no_step, nth, a_at, b_at, inverse_at, row_at}
 use Rattle.algebraic_reduction.proofs.Steps.{project-off_all}
 use Rattle.algebraic_reduction.proofs.LeftBasis.{decide_unpaired, off_paired}
-use Rattle.algebraic_reduction.proofs.KeptSteps.{steps_of-append, project_all-append, kept_at, apart_at, no_b-append, no_b_by, no_b_at, unpaired_no_b}
+use Rattle.algebraic_reduction.proofs.KeptSteps.{steps_of-append, project_all-append, kept_at, apart_at, no_b-append, no_b_by, unpaired_no_b}
 
 pub take-steps_of : (i : ℕ) (ks : List KeptStep) → take i (steps_of ks) ≡ steps_of (take i ks)
 take-steps_of zero ks = refl
@@ -22,7 +22,7 @@ pub steps_of-take_more : (ks : List KeptStep) (i : ℕ) → i < length ks → st
 steps_of-take_more ks i l = ap steps_of (take_more ks i no_step l) ∙ steps_of-append (take i ks) (nth ks i)
 
 pub descent_start : (p : ℕ) (D : ℕ → ℕ → ℕ) (ks : List KeptStep) (x : ℕ → ℕ) → Descent p D ks x x (λ g. 0) 0
-descent_start p D ks x = record { within = omega arith; near = λ g u. same_refl p (x g); weights = λ i l. absurd (omega arith); ahead = λ i l q. same_refl p 0; off = λ g u. same_refl p 0 }
+descent_start p D ks x = record { within = omega arith; near = λ g u. same_refl p (x g); weights = λ i l. absurd (omega arith); ahead = λ i l. refl }
 
 module _ (p n : ℕ) (degree : ℕ → ℕ) (two : 2 ≤ p) (D : ℕ → ℕ → ℕ) (ks : List KeptStep) (bd : IsBoundary p n degree D) (st : AreSteps p n D (steps_of ks)) (kp : AreKept p D ks) (apart : AreApart (steps_of ks)) where
   projected-more : (start : ℕ → ℕ) (i g : ℕ) → i < length ks → projected p D ks start (i + 1) g ≡ project p (left_all p D (steps_of (take i ks))) (nth ks i).step (projected p D ks start i) g
@@ -55,9 +55,11 @@ module _ (p n : ℕ) (degree : ℕ → ℕ) (two : 2 ≤ p) (D : ℕ → ℕ →
   descent_skip start x w i d l z = record {
     within = omega arith;
     near = λ g u. let f = no_b_front i g l u in same_trans (d.near g f.0) (same_sym (same_trans (same_by p 0 0 _ _ (ap (λ v. v + p * 0) (projected-other start i g l f.1))) (same_trans (same_add_none g) (same_refl p _))));
-    weights = λ j q. ⊎_elim (λ e. subst (λ (k : ℕ). Same p (w (b_at ks k)) (inverse_at ks k * projected p D ks start k (a_at ks k))) (sym e) (same_trans (d.ahead i (omega arith) l) (same_sym (same_trans (same-scale (inverse_at ks i) none) (same_by p 0 0 _ _ (omega arith)))))) (λ f. d.weights j (omega arith)) (cases_eq j i);
-    ahead = λ j q c. d.ahead j (omega arith) c;
-    off = d.off;
+    weights = λ j q. ⊎_elim
+        (λ e. subst (λ (k : ℕ). Same p (w k) (weight_at p D ks start k)) (sym e) (same_trans (same_by p 0 0 _ _ (ap (λ v. v + p * 0) (d.ahead i (omega arith)))) (same_sym (same_trans (same-scale (inverse_at ks i) none) (same_by p 0 0 _ _ (omega arith))))))
+        (λ f. d.weights j (omega arith))
+        (cases_eq j i);
+    ahead = λ j q. d.ahead j (omega arith);
   }
     where
       none : Same p (projected p D ks start i (a_at ks i)) 0
@@ -71,27 +73,26 @@ module _ (p n : ℕ) (degree : ℕ → ℕ) (two : 2 ≤ p) (D : ℕ → ℕ →
       → Same p s (minus p (inverse_at ks i * x (a_at ks i)))
       → Same p t (inverse_at ks i * x (a_at ks i))
       → ((g : ℕ) → Same p (x' g) (x g + s * row_at ks i g))
-      → ((g : ℕ) → Same p (w' g) (w g + cond (eqb g (b_at ks i)) t 0))
+      → ((j : ℕ) → w' j ≡ w j + cond (eqb j i) t 0)
       → Descent p D ks start x' w' (i + 1)
   descent_step start x w x' w' i s t d l es et ex ew = record {
     within = omega arith;
     near = λ g u. let f = no_b_front i g l u in same_trans (ex g) (same_trans (same-add (d.near g f.0) (same-mul moved (row_is i g l))) (same_by p 0 0 _ _ (let q = projected-other start i g l f.1 in omega arith)));
     weights = λ j q. ⊎_elim
-        (λ e. subst (λ (k : ℕ). Same p (w' (b_at ks k)) (inverse_at ks k * projected p D ks start k (a_at ks k))) (sym e) (same_trans (ew (b_at ks i)) (rw (eq-eqb (b_at ks i) (b_at ks i) refl) (same_trans (same-add (d.ahead i (omega arith) l) (same_trans et (same-scale (inverse_at ks i) (d.near (a_at ks i) (a_no_b i l))))) (same_by p 0 0 _ _ (omega arith))))))
-        (λ f. same_trans (other (b_at ks j) (λ e. b_apart j i (omega arith) l e)) (d.weights j (omega arith)))
+        (λ e. subst (λ (k : ℕ). Same p (w' k) (weight_at p D ks start k)) (sym e) (same_trans (same_by p 0 0 _ _ (ap (λ v. v + p * 0) own)) (same_trans et (same-scale (inverse_at ks i) (d.near (a_at ks i) (a_no_b i l))))))
+        (λ f. same_trans (same_by p 0 0 _ _ (ap (λ v. v + p * 0) (other j f))) (d.weights j (omega arith)))
         (cases_eq j i);
-    ahead = λ j q c. same_trans (other (b_at ks j) (λ e. b_apart i j (omega arith) c (sym e))) (d.ahead j (omega arith) c);
-    off = λ g u. same_trans (other g (no_b_at ks g u i l)) (d.off g u);
+    ahead = λ j q. other j (λ e. absurd (omega arith)) ∙ d.ahead j (omega arith);
   }
     where
       moved : Same p s (minus p (inverse_at ks i * projected p D ks start i (a_at ks i)))
       moved = same_trans es (same-scale (p - 1) (same-scale (inverse_at ks i) (d.near (a_at ks i) (a_no_b i l))))
 
-      other : (g : ℕ) → g ≢ b_at ks i → Same p (w' g) (w g)
-      other g f = same_trans (ew g) (rw (ne_eqb g (b_at ks i) f) (same_by p 0 0 _ _ (omega arith)))
+      other : (j : ℕ) → j ≢ i → w' j ≡ w j
+      other j f = ew j ∙ ap (λ v. w j + cond v t 0) (ne_eqb j i f) ∙ omega arith
 
-      b_apart : (j k : ℕ) → j < k → k < length ks → b_at ks j ≢ b_at ks k
-      b_apart j k q c = (apart_at ks j k apart q c).3
+      own : w' i ≡ t
+      own = ew i ∙ ap (λ v. w i + cond v t 0) (eq-eqb i i refl) ∙ ap (λ v. v + t) (d.ahead i (omega arith)) ∙ omega arith
 
   pub descent_to : (start x w : ℕ → ℕ) (i j : ℕ) → Descent p D ks start x w i → i + j ≤ length ks → ((k : ℕ) → i ≤ k → k < i + j → Same p (x (a_at ks k)) 0) → Descent p D ks start x w (i + j)
   descent_to start x w i zero d l z = let e : i ≡ i + zero = omega arith in subst (λ (k : ℕ). Descent p D ks start x w k) e d
@@ -115,30 +116,11 @@ module _ (p n : ℕ) (degree : ℕ → ℕ) (two : 2 ≤ p) (D : ℕ → ℕ →
       (λ v. same_trans (dropped g v) (same_sym (off_paired p (steps_of ks) (project_all p D (steps_of ks) start) g (project-off_all p n degree two D (steps_of ks) bd st start) v)))
       (decide_unpaired (steps_of ks) g)
 
-  -- the first step at whose a anything stands
-  pub descent_first : (start : ℕ → ℕ) (next : ℕ) → next ≤ length ks → ((k : ℕ) → k < next → Same p (start (a_at ks k)) 0) → Descent p D ks start start (λ g. 0) next
-  descent_first start next l z =
-      let e : 0 + next ≡ next = omega arith in
-      subst (λ (k : ℕ). Descent p D ks start start (λ g. 0) k) e (descent_to start start (λ g. 0) 0 next (descent_start p D ks start) (omega arith) (λ k a b. z k (omega arith)))
-
-  -- the step at i is made, and then nothing stands before next
-  pub descent_next : (start x w x' w' : ℕ → ℕ) (i s t next : ℕ) → Descent p D ks start x w i → i < length ks
-      → Same p s (minus p (inverse_at ks i * x (a_at ks i)))
-      → Same p t (inverse_at ks i * x (a_at ks i))
-      → ((g : ℕ) → Same p (x' g) (x g + s * row_at ks i g))
-      → ((g : ℕ) → Same p (w' g) (w g + cond (eqb g (b_at ks i)) t 0))
-      → i + 1 ≤ next → next ≤ length ks → ((k : ℕ) → i + 1 ≤ k → k < next → Same p (x' (a_at ks k)) 0)
-      → Descent p D ks start x' w' next
-  descent_next start x w x' w' i s t next d l es et ex ew lo hi z =
-      let e : i + 1 + (next - (i + 1)) ≡ next = omega arith in
-      subst (λ (k : ℕ). Descent p D ks start x' w' k) e (descent_to start x' w' (i + 1) (next - (i + 1)) (descent_step start x w x' w' i s t d l es et ex ew) (omega arith) (λ k a b. z k a (omega arith)))
-
--- the weights modulo p alone count
-pub descent_same : (p : ℕ) (D : ℕ → ℕ → ℕ) (ks : List KeptStep) (start x w w' : ℕ → ℕ) (done : ℕ) → ((g : ℕ) → Same p (w' g) (w g)) → Descent p D ks start x w done → Descent p D ks start x w' done
+-- the same weights
+pub descent_same : (p : ℕ) (D : ℕ → ℕ → ℕ) (ks : List KeptStep) (start x w w' : ℕ → ℕ) (done : ℕ) → ((i : ℕ) → w' i ≡ w i) → Descent p D ks start x w done → Descent p D ks start x w' done
 descent_same p D ks start x w w' done e d = record {
   within = d.within;
   near = d.near;
-  weights = λ i l. same_trans (e (b_at ks i)) (d.weights i l);
-  ahead = λ i l q. same_trans (e (b_at ks i)) (d.ahead i l q);
-  off = λ g u. same_trans (e g) (d.off g u);
+  weights = λ i l. same_trans (same_by p 0 0 _ _ (ap (λ v. v + p * 0) (e i))) (d.weights i l);
+  ahead = λ i l. e i ∙ d.ahead i l;
 }

@@ -10,7 +10,7 @@ use Rattle.chains.proofs.Numbered.{is_boundary_operator}
 use Rattle.algebraic_reduction.specs.Reduction.{single, Step, IsUnpaired, IsOnLeft}
 use Rattle.algebraic_reduction.specs.Laws.{include_of, LeftGeneratorsAreDimension}
 use Rattle.algebraic_reduction.proofs.LeftBasis.{left_generators}
-use Rattle.algebraic_reduction.proofs.Columns.{number_below, same_zero}
+use Rattle.algebraic_reduction.proofs.Residues.{number_below, same_zero}
 
 pub left_dimension : LeftGeneratorsAreDimension
 left_dimension p k m n K ss at ws field c l done lf b = one_length p k n m (system K) ws (λ i. include_of p K ss (single (at i))) field (is_boundary_operator p K c) b (left_generators p k m K ss at field.above_one c l done lf)

@@ -16,8 +16,8 @@ use Rattle.chains.specs.Terms.{coefficient, product, IsNormal, IsNormalWithin}
 use Rattle.chains.proofs.Boundary.{product-total}
 use Rattle.algebraic_reduction.specs.Kept.{KeptStep, b_at}
 use Rattle.algebraic_reduction.specs.Maps.{Equations, rest_at}
-use Rattle.algebraic_reduction.proofs.Naming.{coefficient_other}
-use Rattle.algebraic_reduction.proofs.Columns.{negated}
+use Rattle.algebraic_reduction.proofs.NamedRows.{coefficient_other}
+use Rattle.algebraic_reduction.proofs.Residues.{negated}
 use Rattle.algebraic_reduction.proofs.Triangular.{Settling, IsTriangular, settle_one}
 
 pub at_same : (i : ℕ) → is_at (nat_cmp i) i ≡ true

@@ -1,4 +1,4 @@
--- Rows and columns of kept steps: one more step, and the steps by their places.
+-- Rows of kept steps: one more step, the steps by their places, and the first ones of them.
 use Rattle.std.proofs.Common.{◌≡◌, ◌≢◌, ℕ, zero, suc, ◌<◌, ◌≤◌, refl, ap, arith, List, [], ◌∷◌, ◌++◌, length, take}
 use Rattle.field_mod.specs.Modular.{Same}
 use Rattle.field_mod.proofs.Modular.{same_trans}
@@ -7,8 +7,8 @@ use Rattle.algebraic_reduction.specs.Reduction.{Step, IsBoundary, IsStep, IsUnpa
 use Rattle.std.specs.Prelude.{slice_get, Some}
 use Rattle.algebraic_reduction.specs.Laws.{AreApart}
 use Rattle.algebraic_reduction.specs.LogWords.{pairs}
-use Rattle.algebraic_reduction.specs.Kept.{KeptStep, steps_of, IsKept, AreKept, nth, a_at, b_at, row_at, column_at}
-use Rattle.algebraic_reduction.proofs.Steps.{IsDead, dead_left, pair-dead_a, pair-dead_b, step_one}
+use Rattle.algebraic_reduction.specs.Kept.{KeptStep, steps_of, IsKept, AreKept, nth, a_at, b_at, row_at}
+use Rattle.algebraic_reduction.proofs.Steps.{IsDead, dead_left, pair-dead_a, step_one}
 
 -- ---- one more step
 
@@ -81,6 +81,34 @@ pairs_at [] i l = absurd (omega arith)
 pairs_at (k ∷ ks) zero l = refl
 pairs_at (k ∷ ks) (suc i) l = pairs_at ks i (omega arith)
 
+-- ---- the first steps
+
+pub unpaired_take : (m : ℕ) (ks : List KeptStep) (g : ℕ) → IsUnpaired (steps_of ks) g → IsUnpaired (steps_of (take m ks)) g
+unpaired_take zero ks g u = tt
+unpaired_take (suc m) [] g u = tt
+unpaired_take (suc m) (k ∷ ks) g u = (u.0, u.1, unpaired_take m ks g u.2)
+
+pub apart_take : (m : ℕ) (ks : List KeptStep) → AreApart (steps_of ks) → AreApart (steps_of (take m ks))
+apart_take zero ks a = tt
+apart_take (suc m) [] a = tt
+apart_take (suc m) (k ∷ ks) a = (unpaired_take m ks k.step.a a.0, unpaired_take m ks k.step.b a.1, apart_take m ks a.2)
+
+pub steps_take : (p n : ℕ) (D : ℕ → ℕ → ℕ) (m : ℕ) (ks : List KeptStep) → AreSteps p n D (steps_of ks) → AreSteps p n D (steps_of (take m ks))
+steps_take p n D zero ks l = tt
+steps_take p n D (suc m) [] l = tt
+steps_take p n D (suc m) (k ∷ ks) l = (l.0, steps_take p n (left p D k.step) m ks l.1)
+
+pub kept_take : (p : ℕ) (D : ℕ → ℕ → ℕ) (m : ℕ) (ks : List KeptStep) → AreKept p D ks → AreKept p D (take m ks)
+kept_take p D zero ks l = tt
+kept_take p D (suc m) [] l = tt
+kept_take p D (suc m) (k ∷ ks) l = (l.0, kept_take p (left p D k.step) m ks l.1)
+
+pub take_take : (t m : ℕ) (ks : List KeptStep) → t ≤ m → take t (take m ks) ≡ take t ks
+take_take zero m ks l = refl
+take_take (suc t) zero ks l = absurd (omega arith)
+take_take (suc t) (suc m) [] l = refl
+take_take (suc t) (suc m) (k ∷ ks) l = ap (λ (ls : List KeptStep). k ∷ ls) (take_take t m ks (omega arith))
+
 module _ (p n : ℕ) (degree : ℕ → ℕ) (two : 2 ≤ p) where
   pub step_at : (D : ℕ → ℕ → ℕ) (ks : List KeptStep) (i : ℕ) → AreSteps p n D (steps_of ks) → i < length ks → IsStep p n (left_all p D (take i (steps_of ks))) (nth ks i).step
   step_at D [] i l q = absurd (omega arith)
@@ -92,16 +120,11 @@ module _ (p n : ℕ) (degree : ℕ → ℕ) (two : 2 ≤ p) where
   kept_at D (k ∷ ks) zero l q = l.0
   kept_at D (k ∷ ks) (suc i) l q = kept_at (left p D k.step) ks i l.1 (omega arith)
 
-  -- a row has nothing at what is dead, and a column neither
+  -- a row has nothing at what is dead
   pub row_dead : (D : ℕ → ℕ → ℕ) (ks : List KeptStep) (i v : ℕ) → AreKept p D ks → i < length ks → IsDead p D v → Same p (row_at ks i v) 0
   row_dead D [] i v l q d = absurd (omega arith)
   row_dead D (k ∷ ks) zero v l q d = same_trans (l.0.row v) (d.column k.step.b)
   row_dead D (k ∷ ks) (suc i) v l q d = row_dead (left p D k.step) ks i v l.1 (omega arith) (dead_left p n degree two D k.step v d)
-
-  pub column_dead : (D : ℕ → ℕ → ℕ) (ks : List KeptStep) (i v : ℕ) → AreKept p D ks → i < length ks → v ≢ b_at ks i → IsDead p D v → Same p (column_at ks i v) 0
-  column_dead D [] i v l q f d = absurd (omega arith)
-  column_dead D (k ∷ ks) zero v l q f d = same_trans (l.0.column v f) (d.row k.step.a)
-  column_dead D (k ∷ ks) (suc i) v l q f d = column_dead (left p D k.step) ks i v l.1 (omega arith) f (dead_left p n degree two D k.step v d)
 
   -- a row has nothing at the a of an earlier step
   pub row_before : (D : ℕ → ℕ → ℕ) (ks : List KeptStep) (i j : ℕ) → IsBoundary p n degree D → AreSteps p n D (steps_of ks) → AreKept p D ks → j < i → i < length ks → Same p (row_at ks i (a_at ks j)) 0
@@ -109,10 +132,3 @@ module _ (p n : ℕ) (degree : ℕ → ℕ) (two : 2 ≤ p) where
   row_before D (k ∷ ks) zero j bd st kp j<i q = absurd (omega arith)
   row_before D (k ∷ ks) (suc i) zero bd st kp j<i q = row_dead (left p D k.step) ks i k.step.a kp.1 (omega arith) (pair-dead_a p n degree two D k.step bd st.0)
   row_before D (k ∷ ks) (suc i) (suc j) bd st kp j<i q = row_before (left p D k.step) ks i j (step_one p n degree two bd st.0) st.1 kp.1 (omega arith) (omega arith)
-
-  -- a column has nothing at the b of an earlier step
-  pub column_before : (D : ℕ → ℕ → ℕ) (ks : List KeptStep) (i j : ℕ) → IsBoundary p n degree D → AreSteps p n D (steps_of ks) → AreKept p D ks → AreApart (steps_of ks) → j < i → i < length ks → Same p (column_at ks i (b_at ks j)) 0
-  column_before D [] i j bd st kp ap j<i q = absurd (omega arith)
-  column_before D (k ∷ ks) zero j bd st kp ap j<i q = absurd (omega arith)
-  column_before D (k ∷ ks) (suc i) zero bd st kp ap j<i q = column_dead (left p D k.step) ks i k.step.b kp.1 (omega arith) ((unpaired_at ks k.step.b ap.1 i (omega arith)).1) (pair-dead_b p n degree two D k.step bd st.0)
-  column_before D (k ∷ ks) (suc i) (suc j) bd st kp ap j<i q = column_before (left p D k.step) ks i j (step_one p n degree two bd st.0) st.1 kp.1 ap.2 (omega arith) (omega arith)

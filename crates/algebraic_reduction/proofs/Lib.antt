@@ -8,8 +8,8 @@ pub mod KeptSteps
 pub mod Triangular
 pub mod Descent
 pub mod Settled
-pub mod Naming
-pub mod Columns
+pub mod NamedRows
+pub mod Residues
 pub mod OneMore
 pub mod Start
 pub mod MapSteps
@@ -22,4 +22,7 @@ pub mod Spreading
 pub mod LinearMaps
 pub mod Singles
 pub mod Restrictions
-pub mod Parts
+pub mod AcyclicParts
+pub mod Returning
+pub mod Turning
+pub mod Including

@@ -4,7 +4,7 @@ use Rattle.std.specs.Prelude.{is_some, not}
 use Rattle.chains.specs.Terms.{coefficient}
 use Rattle.chains.proofs.TermLists.{coefficient-append}
 use Rattle.algebraic_reduction.specs.State.{place_at}
-use Rattle.algebraic_reduction.proofs.Naming.{coefficient_more, coefficient_other}
+use Rattle.algebraic_reduction.proofs.NamedRows.{coefficient_more, coefficient_other}
 
 pub none_from : (o : Option ℕ) (b : Bool) → is_some o ≡ not b → b ≡ true → o ≡ None
 none_from o b e q = elim o as (λ v. is_some v ≡ not b → v ≡ None) [ None ↦ λ r. refl | Some i ↦ λ r. absurd (true≢false (r ∙ ap not q)) ] e

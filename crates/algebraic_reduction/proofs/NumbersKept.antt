@@ -15,8 +15,8 @@ use Rattle.chains.specs.Terms.{coefficient, product}
 use Rattle.algebraic_reduction.proofs.DueSteps.{at_same, at_other}
 use Rattle.chains.proofs.TermLists.{coefficient-append}
 use Rattle.algebraic_reduction.proofs.OneStep.{eqb_sym}
-use Rattle.algebraic_reduction.proofs.Naming.{coefficient_more}
-use Rattle.algebraic_reduction.proofs.Columns.{reduced}
+use Rattle.algebraic_reduction.proofs.NamedRows.{coefficient_more}
+use Rattle.algebraic_reduction.proofs.Residues.{reduced}
 
 above : (x y : ℕ) → nat_cmp x y ≡ Less → x < y
 above x y e = grind (arith, nat_tests)

@@ -1,117 +1,30 @@
 -- One more step: what the fields of a log hold after it.
-use Rattle.std.proofs.Common.{◌≡◌, ◌≢◌, ℕ, zero, suc, ◌+◌, ◌-◌, ◌*◌, ◌%◌, ◌^◌, ◌<◌, ◌≤◌, ◌⊎◌, inl, inr, refl, sym, ap, ◌∙◌, arith, ⊎_elim, List, [], ◌∷◌, ◌++◌, length, get_or, set, take, mod-eq_of_lt, cond, eqb, eq-eqb, ne_eqb, eqb-true, true, false, Bool, ◌||◌, true≢false, subst, length-append, length-set, get_or-set_same, get_or-set_other, Option, Some, None}
+use Rattle.std.proofs.Common.{◌≡◌, ◌≢◌, ℕ, zero, suc, ◌+◌, ◌*◌, ◌%◌, ◌^◌, ◌<◌, ◌≤◌, ◌⊎◌, inl, inr, refl, sym, ap, ◌∙◌, arith, ⊎_elim, List, [], ◌∷◌, ◌++◌, length, get_or, set, take, mod-eq_of_lt, eqb, ne_eqb, eqb-true, true, false, Bool, ◌||◌, true≢false, subst, length-append, length-set, get_or-set_same, get_or-set_other, Option, Some, None}
 use Rattle.std.specs.List.{list_any}
 use Rattle.std.proofs.lemmas.Bool.{cases_eq, cases_lt}
 use Rattle.std.proofs.lemmas.List.{get_or_append_left}
 use Rattle.std.proofs.lemmas.Map.Keys.{IsDistinct-from_apart}
 use Rattle.std.proofs.lemmas.Map.Steps.{length-le_from_distinct_below}
 use Rattle.std.proofs.Math.Seq.{get_or-append_seam, take-append_seam}
-use Rattle.field_mod.specs.Modular.{Same, NonZero, minus}
-use Rattle.field_mod.proofs.Modular.{same_by, same_refl, same_sym, same_trans, same-add, same-scale, same-mul, neg_cancel}
+use Rattle.field_mod.specs.Modular.{Same, NonZero}
+use Rattle.field_mod.proofs.Modular.{same_by, same_sym, same_trans, same-scale}
 use Rattle.chains.specs.Terms.{coefficient}
 use Rattle.chains.specs.ChainComplex.{ChainComplex, incidence}
 use Rattle.algebraic_reduction.specs.Reduction.{Step, IsStep, IsUnpaired, AreSteps, left}
 use Rattle.algebraic_reduction.specs.Laws.{left_of, AreStepsOf}
 use Rattle.algebraic_reduction.specs.Kept.{KeptStep, steps_of, IsKept, no_step, nth, a_at, b_at}
 use Rattle.algebraic_reduction.specs.LogWords.{IsOneMore}
-use Rattle.algebraic_reduction.specs.State.{Names, NamesStay, AreCovered, place_at, IsState}
-use Rattle.algebraic_reduction.proofs.Columns.{incidence_set_same, incidence_set_other, reduced}
-use native.Mathlib.Nat.{zero-mod}
+use Rattle.algebraic_reduction.specs.State.{place_at, IsState}
 use Rattle.algebraic_reduction.proofs.Bridge.{grade, is_boundary}
 use Rattle.algebraic_reduction.proofs.Linear.{left_all_is_boundary}
-use Rattle.algebraic_reduction.proofs.KeptSteps.{steps_of-append, left_all-append, AreSteps-append, AreKept-append, IsUnpaired-append, unpaired_at}
+use Rattle.algebraic_reduction.proofs.KeptSteps.{steps_of-append, AreSteps-append, AreKept-append, IsUnpaired-append, unpaired_at}
 
--- ---- the boundaries after clearing both columns
+-- a number that is one modulo p with what is not 0 is positive
+pub pos_by : (p n x : ℕ) → NonZero p x → Same p n x → 0 < n
+pos_by p n x nz e = ⊎_elim (λ z. absurd (nz (same_trans (same_sym e) (same_by p 0 0 _ _ (ap (λ v. v + p * 0) z))))) (λ f. omega arith) (cases_eq n 0)
 
-pub covered_less : (p b : ℕ) (bs : List (List (ℕ × ℕ))) (lists : List (List ℕ)) → b < length bs → AreCovered p bs lists → AreCovered p (set bs b []) lists
-covered_less p b bs lists inside cov h g l nz = ⊎_elim
-    (λ e. absurd (nz (same_by p 0 0 _ _ (ap (λ k. incidence (set bs b []) k g + p * 0) e ∙ ap (λ v. v + p * 0) (incidence_set_same bs b [] g inside)))))
-    (λ f. cov h g l (λ z. nz (same_trans (same_by p 0 0 _ _ (ap (λ v. v + p * 0) (incidence_set_other bs b h [] g f))) z)))
-    (cases_eq h b)
-
-pub left_same : (p : ℕ) (D E : ℕ → ℕ → ℕ) (s : Step) → ((h g : ℕ) → Same p (D h g) (E h g)) → (h g : ℕ) → Same p (left p D s h g) (left p E s h g)
-left_same p D E s e h g = elim (eqb g s.b) as (λ v. Same p (cond v 0 (cond (eqb h s.b) 0 (cond (eqb h s.a) 0 (D h g + minus p (s.inverse * D h s.a * D s.b g))))) (cond v 0 (cond (eqb h s.b) 0 (cond (eqb h s.a) 0 (E h g + minus p (s.inverse * E h s.a * E s.b g)))))) [
-  | true ↦ same_refl p 0
-  | false ↦ elim (eqb h s.b) as (λ v. Same p (cond v 0 (cond (eqb h s.a) 0 (D h g + minus p (s.inverse * D h s.a * D s.b g)))) (cond v 0 (cond (eqb h s.a) 0 (E h g + minus p (s.inverse * E h s.a * E s.b g))))) [
-    | true ↦ same_refl p 0
-    | false ↦ elim (eqb h s.a) as (λ v. Same p (cond v 0 (D h g + minus p (s.inverse * D h s.a * D s.b g))) (cond v 0 (E h g + minus p (s.inverse * E h s.a * E s.b g)))) [
-      | true ↦ same_refl p 0
-      | false ↦ same-add (e h g) (same-scale (p - 1) (same-mul (same-scale s.inverse (e h s.a)) (e s.b g)))
-    ]
-  ]
-]
-
--- the boundary of b is taken out (first), the column of a cleared by it (second), the boundary of a taken out (third), and the
--- column of b cleared (fourth)
-pub left_by_clearing : (p a b inverse : ℕ) (old second fourth : List (List (ℕ × ℕ))) (row one : List (ℕ × ℕ)) → 1 ≤ p → a ≢ b → b < length old → a < length second
-    → ((g : ℕ) → Same p (coefficient row g) (incidence old b g))
-    → ((h g : ℕ) → Same p (incidence second h g) (incidence (set old b []) h g + minus p (inverse * incidence (set old b []) h a * coefficient row g)))
-    → ((g : ℕ) → Same p (coefficient one g) (cond (eqb b g) 1 0))
-    → ((h g : ℕ) → Same p (incidence fourth h g) (incidence (set second a []) h g + minus p (1 * incidence (set second a []) h b * coefficient one g)))
-    → (h g : ℕ) → Same p (incidence fourth h g) (left p (incidence old) (record { a = a; b = b; inverse = inverse }) h g)
-left_by_clearing p a b inverse old second fourth row one pos apart b_in a_in er es eo ef h g = ⊎_elim
-    (λ e. rw (eq-eqb g b e) (at_b e))
-    (λ f. rw (ne_eqb g b f) (⊎_elim
-    (λ e. rw (eq-eqb h b e) (subst (λ (k : ℕ). Same p (incidence fourth k g) 0) (sym e) (same_trans (other b f) row_b)))
-    (λ nb. rw (ne_eqb h b nb) (⊎_elim
-    (λ e. rw (eq-eqb h a e) (subst (λ (k : ℕ). Same p (incidence fourth k g) 0) (sym e) (same_trans (other a f) row_a)))
-    (λ na. rw (ne_eqb h a na) (same_trans (other h f) (rest na nb)))
-    (cases_eq h a)))
-    (cases_eq h b)))
-    (cases_eq g b)
-  where
-    third : ℕ → ℕ → ℕ
-    third = incidence (set second a [])
-
-    exact : {x y : ℕ} → x ≡ y → Same p x y
-    exact e = same_by p 0 0 _ _ (ap (λ v. v + p * 0) e)
-
-    off : (k : ℕ) → k ≢ b → Same p (coefficient one k) 0
-    off k f = same_trans (eo k) (rw (ne_eqb b k (λ e. f (sym e))) (same_refl p 0))
-
-    on : Same p (coefficient one b) 1
-    on = same_trans (eo b) (rw (eq-eqb b b refl) (same_refl p 1))
-
-    -- past the column of b nothing changes in the last clearing
-    other : (h : ℕ) → g ≢ b → Same p (incidence fourth h g) (incidence (set second a []) h g)
-    other h f = same_trans (ef h g) (same_trans (same-add (same_refl p (incidence (set second a []) h g)) (same-scale (p - 1) (same-scale (1 * incidence (set second a []) h b) (off g f)))) (same_by p 0 0 _ _ (omega arith)))
-
-    at_b : g ≡ b → Same p (incidence fourth h g) 0
-    at_b e =
-        let v = incidence (set second a []) h b in
-        let n = neg_cancel p v pos in
-        subst (λ (k : ℕ). Same p (incidence fourth h k) 0) (sym e) (same_trans (ef h b) (same_trans (same-add (same_refl p v) (same-scale (p - 1) (same-scale (1 * v) on))) (same_by p 0 v _ _ (omega arith))))
-
-    row_a : Same p (incidence (set second a []) a g) 0
-    row_a = exact (incidence_set_same second a [] g a_in)
-
-    row_b : Same p (incidence (set second a []) b g) 0
-    row_b = same_trans (exact (incidence_set_other second a b [] g (λ e. apart (sym e)))) (same_trans (es b g) (same_trans (same-add (exact (incidence_set_same old b [] g b_in)) (same-scale (p - 1) (same-mul (same-scale inverse (exact (incidence_set_same old b [] a b_in))) (same_refl p (coefficient row g))))) (same_by p 0 0 _ _ (omega arith))))
-
-    rest : h ≢ a → h ≢ b → Same p (incidence (set second a []) h g) (incidence old h g + minus p (inverse * incidence old h a * incidence old b g))
-    rest na nb = same_trans (exact (incidence_set_other second a h [] g na)) (same_trans (es h g) (same-add (exact (incidence_set_other old b h [] g nb)) (same-scale (p - 1) (same-mul (same-scale inverse (exact (incidence_set_other old b h [] a nb))) (er g)))))
-
--- what is not 0 modulo p is positive
-pub pos_by : (p n x : ℕ) → NonZero p x → n ≡ x → 0 < n
-pos_by p n x nz e = ⊎_elim (λ z. absurd (nz (same_by p 0 0 _ _ (ap (λ v. v + p * 0) (sym e ∙ z))))) (λ f. omega arith) (cases_eq n 0)
-
-pub inverse_same : (p i n m : ℕ) → 2 ≤ p → (i * n) % p ≡ 1 → n ≡ m → Same p (i * m) 1
-inverse_same p i n m two e q = record { same = ap (λ v. (i * v) % p) (sym q) ∙ e ∙ sym (mod-eq_of_lt two) }
-
--- the chain of one generator
-pub one_is : (p b g : ℕ) (one : List (ℕ × ℕ)) → coefficient one g ≡ coefficient ((b, 1) ∷ []) g % p → Same p (coefficient one g) (cond (eqb b g) 1 0)
-one_is p b g one e = same_trans (reduced p _ _ e) (same_by p 0 0 _ _ (omega arith))
-
-pub one_at : (p b : ℕ) (one : List (ℕ × ℕ)) → coefficient one b ≡ coefficient ((b, 1) ∷ []) b % p → Same p (1 * coefficient one b) 1
-one_at p b one e = same_trans (same_by p 0 0 _ (coefficient one b) (omega arith)) (same_trans (one_is p b b one e) (rw (eq-eqb b b refl) (same_refl p 1)))
-
--- the row and the column of the step
-pub kept_by : (p a b inverse : ℕ) (bs : List (List (ℕ × ℕ))) (row column terms : List (ℕ × ℕ)) → b < length bs → row ≡ get_or bs b [] → ((h : ℕ) → coefficient column h ≡ coefficient terms h % p) → ((h : ℕ) → Same p (coefficient terms h) (incidence (set bs b []) h a)) → IsKept p (incidence bs) (record { step = record { a = a; b = b; inverse = inverse }; row = row; column = column })
-kept_by p a b inverse bs row column terms inside er ec et = record {
-  row = λ g. same_by p 0 0 _ _ (ap (λ (t : List (ℕ × ℕ)). coefficient t g + p * 0) er);
-  column = λ c f. same_trans (reduced p _ _ (ec c)) (same_trans (et c) (same_by p 0 0 _ _ (ap (λ v. v + p * 0) (incidence_set_other bs b c [] a f))));
-  column_at_b = ec b ∙ (let s = et b in s.same) ∙ ap (λ v. v % p) (incidence_set_same bs b [] a inside) ∙ zero-mod p;
-}
+pub inverse_same : (p i n m : ℕ) → 2 ≤ p → (i * n) % p ≡ 1 → Same p n m → Same p (i * m) 1
+inverse_same p i n m two e q = same_trans (same-scale i (same_sym q)) (record { same = e ∙ sym (mod-eq_of_lt two) })
 
 -- ---- how many steps there can be
 
@@ -147,20 +60,13 @@ steps_short p n D ks st apart =
 
 -- ---- what the fields hold after the step
 
-module _ (p : ℕ) (two : 2 ≤ p) (K : ChainComplex) (bs bs' : List (List (ℕ × ℕ))) (cofaces cofaces' standing standing' : List (List ℕ)) (places places' : List (Option ℕ)) (ks : List KeptStep) (k : KeptStep)
-    (state : IsState p K bs cofaces standing places ks)
+module _ (p : ℕ) (two : 2 ≤ p) (K : ChainComplex) (places places' : List (Option ℕ)) (ks : List KeptStep) (k : KeptStep)
+    (state : IsState p K places ks)
     (a_in : k.step.a < length K.boundaries) (b_in : k.step.b < length K.boundaries) (apart : k.step.a ≢ k.step.b)
     (a_alive : IsUnpaired (steps_of ks) k.step.a) (b_alive : IsUnpaired (steps_of ks) k.step.b)
-    (inverts : Same p (k.step.inverse * incidence bs k.step.b k.step.a) 1)
-    (kept : IsKept p (incidence bs) k)
-    (left_is : (h g : ℕ) → Same p (incidence bs' h g) (left p (incidence bs) k.step h g))
-    (count : length bs' ≡ length bs) (count_cofaces : length cofaces' ≡ length cofaces) (count_standing : length standing' ≡ length standing)
-    (covered : AreCovered p bs' cofaces') (stay : NamesStay cofaces cofaces') (stand : NamesStay standing standing')
-    (named : (c : ℕ) → c < length standing' → coefficient k.column c ≢ 0 → Names standing' c k.step.b)
+    (inverts : Same p (k.step.inverse * left_of p K (steps_of ks) k.step.b k.step.a) 1)
+    (kept_is : IsKept p (left_of p K (steps_of ks)) k)
     (places_is : places' ≡ set (set places k.step.a (Some (length ks))) k.step.b (Some (length ks))) where
-  abbrev n : ℕ
-  n = length K.boundaries
-
   places_at_b : place_at places' k.step.b ≡ Some (length ks)
   places_at_b = ap (λ (ps : List (Option ℕ)). place_at ps k.step.b) places_is ∙ get_or-set_same (set places k.step.a (Some (length ks))) k.step.b (Some (length ks)) None (let c = state.places_count in omega (arith, length-set places k.step.a (Some (length ks)), b_in))
 
@@ -196,29 +102,15 @@ module _ (p : ℕ) (two : 2 ≤ p) (K : ChainComplex) (bs bs' : List (List (ℕ 
       parts [] u = (tt, u.0, u.1)
       parts (s ∷ ss) u = let r = parts ss u.2 in ((u.0, u.1, r.0), r.1, r.2)
 
-  step_is : IsStep p n (left_of p K (steps_of ks)) k.step
-  step_is = record { a_in = a_in; b_in = b_in; apart = apart; inverts = same_trans (same-scale k.step.inverse (same_sym (state.left k.step.b k.step.a))) inverts }
+  step_is : IsStep p (length K.boundaries) (left_of p K (steps_of ks)) k.step
+  step_is = record { a_in = a_in; b_in = b_in; apart = apart; inverts = inverts }
 
-  kept_is : IsKept p (left_of p K (steps_of ks)) k
-  kept_is = record {
-    row = λ g. same_trans (kept.row g) (state.left k.step.b g);
-    column = λ c f. same_trans (kept.column c f) (state.left c k.step.a);
-    column_at_b = kept.column_at_b;
-  }
-
-  pub state_more : IsState p K bs' cofaces' standing' places' (ks ++ k ∷ [])
+  pub state_more : IsState p K places' (ks ++ k ∷ [])
   state_more = record {
     complex = state.complex;
-    boundaries_count = count ∙ state.boundaries_count;
-    cofaces_count = count_cofaces ∙ state.cofaces_count;
-    standing_count = count_standing ∙ state.standing_count;
     places_count = ap length places_is ∙ length-set (set places k.step.a (Some (length ks))) k.step.b (Some (length ks)) ∙ length-set places k.step.a (Some (length ks)) ∙ state.places_count;
-    steps = subst (λ (ss : List Step). AreStepsOf p K ss) (sym new_steps) (AreSteps-append p n (incidence K.boundaries) (steps_of ks) k.step state.steps step_is);
+    steps = subst (λ (ss : List Step). AreStepsOf p K ss) (sym new_steps) (AreSteps-append p (length K.boundaries) (incidence K.boundaries) (steps_of ks) k.step state.steps step_is);
     kept = AreKept-append p (incidence K.boundaries) ks k state.kept kept_is;
-    left = λ h g. subst (λ (ss : List Step). Same p (incidence bs' h g) (left_of p K ss h g)) (sym new_steps) (subst (λ (D : ℕ → ℕ → ℕ). Same p (incidence bs' h g) (D h g)) (sym (left_all-append p (incidence K.boundaries) (steps_of ks) k.step)) (same_trans (left_is h g) (left_same p (incidence bs) (left_of p K (steps_of ks)) k.step state.left h g)));
-    covered = covered;
-    rows_named = λ i g l q nz. by_step (λ (i : ℕ) (s : KeptStep). NonZero p (coefficient s.row g) → Names cofaces' g s.step.b) (λ i l nz. stay g (b_at ks i) (state.rows_named i g l (omega arith) nz)) (λ nz. stay g k.step.b (state.covered k.step.b g (omega arith) (λ z. nz (same_trans (kept.row g) z)))) i l nz;
-    columns_named = λ i c l q nz. by_step (λ (i : ℕ) (s : KeptStep). NonZero p (coefficient s.column c) → Names standing' c s.step.b) (λ i l nz. stand c (b_at ks i) (state.columns_named i c l (omega arith) nz)) (λ nz. named c q (λ z. nz (same_by p 0 0 _ _ (ap (λ v. v + p * 0) z)))) i l nz;
     placed = by_step (λ (i : ℕ) (s : KeptStep). (place_at places' s.step.a ≡ Some i) × (place_at places' s.step.b ≡ Some i)) (λ i l. let r = state.placed i l in let ua = unpaired_at ks k.step.a a_alive i l in let ub = unpaired_at ks k.step.b b_alive i l in (places_other (a_at ks i) (λ e. ua.0 (sym e)) (λ e. ub.0 (sym e)) ∙ r.0, places_other (b_at ks i) (λ e. ua.1 (sym e)) (λ e. ub.1 (sym e)) ∙ r.1)) (places_at_a, places_at_b);
     in_step = λ g i e. ⊎_elim
         (λ q. own_a g i q e)
@@ -243,8 +135,8 @@ module _ (p : ℕ) (two : 2 ≤ p) (K : ChainComplex) (bs bs' : List (List (ℕ 
       own_b g i q e = let s = some_is (length ks) i (sym places_at_b ∙ ap (λ (x : ℕ). place_at places' x) (sym q) ∙ e) in ((omega (arith, new_length)), (λ u. (unpaired_new g u).2 q))
 
 -- there are fewer than 2^32 steps
-pub state_short : (p : ℕ) (K : ChainComplex) (bs : List (List (ℕ × ℕ))) (cofaces standing : List (List ℕ)) (places : List (Option ℕ)) (ks : List KeptStep) → IsState p K bs cofaces standing places ks → length ks < 2 ^ 32
-state_short p K bs cofaces standing places ks s =
+pub state_short : (p : ℕ) (K : ChainComplex) (places : List (Option ℕ)) (ks : List KeptStep) → IsState p K places ks → length ks < 2 ^ 32
+state_short p K places ks s =
     let c = s.complex in
     let l = steps_short p (length K.boundaries) (incidence K.boundaries) ks s.steps (λ i j l m e. absurd (different i j l (sym (s.placed i (omega arith)).1 ∙ ap (λ (x : ℕ). place_at places x) e ∙ (s.placed j m).1))) in
     omega (arith, c.short)
@@ -256,47 +148,28 @@ state_short p K bs cofaces standing places ks s =
     different i j l e = let q = same_place i j e in absurd (omega arith)
 
 -- two generators with an incidence number that is not 0 are different
-pub state_apart : (p a b : ℕ) (K : ChainComplex) (bs : List (List (ℕ × ℕ))) (cofaces standing : List (List ℕ)) (places : List (Option ℕ)) (ks : List KeptStep) → 2 ≤ p → IsState p K bs cofaces standing places ks → NonZero p (incidence bs b a) → a ≢ b
-state_apart p a b K bs cofaces standing places ks two s nz e =
+pub state_apart : (p a b : ℕ) (K : ChainComplex) (places : List (Option ℕ)) (ks : List KeptStep) → 2 ≤ p → IsState p K places ks → NonZero p (left_of p K (steps_of ks) b a) → a ≢ b
+state_apart p a b K places ks two s nz e =
     let d = grade K.degrees in
     let lb = left_all_is_boundary p (length K.boundaries) d two (incidence K.boundaries) (steps_of ks) (is_boundary p K s.complex) s.steps in
-    nz (same_trans (s.left b a) (lb.lowers b a (λ q. let r = ap d e in absurd (omega arith))))
+    nz (lb.lowers b a (λ q. let r = ap d e in absurd (omega arith)))
 
 pub written : {A : Type 0} (n : ℕ) (xs ys : List A) → n ≡ length xs → take n (xs ++ ys) ≡ xs
 written n xs ys e = ap (λ k. take k (xs ++ ys)) e ∙ take-append_seam xs ys
 
-pub state_after : (p a b bl cl sl m : ℕ) (two : 2 ≤ p) (K : ChainComplex) (bs bs0 bs' jb : List (List (ℕ × ℕ))) (cofaces cofaces0 cofaces' jc standing standing0 standing' js : List (List ℕ)) (places : List (Option ℕ)) (ks ks' : List KeptStep) (k : KeptStep)
-    → IsState p K bs cofaces standing places ks
+pub state_after : (p a b m inverse : ℕ) (two : 2 ≤ p) (K : ChainComplex) (row : List (ℕ × ℕ)) (places : List (Option ℕ)) (ks ks' : List KeptStep) (k : KeptStep)
+    → IsState p K places ks
     → (a < length K.boundaries) × IsUnpaired (steps_of ks) a → (b < length K.boundaries) × IsUnpaired (steps_of ks) b
-    → bs0 ≡ bs → cofaces0 ≡ cofaces → standing0 ≡ standing
-    → k.step.a ≡ a → k.step.b ≡ b
-    → NonZero p (incidence bs b a)
-    → Same p (k.step.inverse * incidence bs0 b a) 1
-    → IsKept p (incidence bs0) k
-    → ((h g : ℕ) → Same p (incidence bs' h g) (left p (incidence bs0) k.step h g))
-    → length bs' ≡ length bs0 → length cofaces' ≡ length cofaces0 → length standing' ≡ length standing0
-    → AreCovered p bs' cofaces' → NamesStay cofaces0 cofaces' → NamesStay standing0 standing'
-    → ((c : ℕ) → c < length standing' → coefficient k.column c ≢ 0 → Names standing' c b)
-    → bl ≡ length bs → cl ≡ length cofaces → sl ≡ length standing → m ≡ length ks → ks' ≡ ks ++ k ∷ []
-    → IsState p K (take bl (bs' ++ jb)) (take cl (cofaces' ++ jc)) (take sl (standing' ++ js)) (set (set places a (Some m)) b (Some m)) ks'
-state_after p a b bl cl sl m two K bs bs0 bs' jb cofaces cofaces0 cofaces' jc standing standing0 standing' js places ks ks' k s ia ib eb0 ec0 es0 ea eb nz inverts kept left_is count count_cofaces count_standing covered stay stand named ebl ecl esl em eks =
-    let r = state_more p two K bs bs' cofaces cofaces' standing standing' places (set (set places a (Some m)) b (Some m)) ks k s
-    (subst (λ (x : ℕ). x < length K.boundaries) (sym ea) ia.0)
-    (subst (λ (x : ℕ). x < length K.boundaries) (sym eb) ib.0)
-    (λ e. state_apart p a b K bs cofaces standing places ks two s nz (sym ea ∙ e ∙ eb))
-    (subst (λ (x : ℕ). IsUnpaired (steps_of ks) x) (sym ea) ia.1)
-    (subst (λ (x : ℕ). IsUnpaired (steps_of ks) x) (sym eb) ib.1)
-    (subst (λ (x : ℕ). Same p (k.step.inverse * incidence bs x k.step.a) 1) (sym eb) (subst (λ (x : ℕ). Same p (k.step.inverse * incidence bs b x) 1) (sym ea) (subst (λ (c : List (List (ℕ × ℕ))). Same p (k.step.inverse * incidence c b a) 1) eb0 inverts)))
-    (subst (λ (c : List (List (ℕ × ℕ))). IsKept p (incidence c) k) eb0 kept)
-    (subst (λ (c : List (List (ℕ × ℕ))). (h g : ℕ) → Same p (incidence bs' h g) (left p (incidence c) k.step h g)) eb0 left_is)
-    (count ∙ ap length eb0) (count_cofaces ∙ ap length ec0) (count_standing ∙ ap length es0) covered
-    (subst (λ (c : List (List ℕ)). NamesStay c cofaces') ec0 stay) (subst (λ (c : List (List ℕ)). NamesStay c standing') es0 stand)
-    (λ c l f. subst (λ (x : ℕ). Names standing' c x) (sym eb) (named c l f))
-    (ap (λ (v : Option ℕ). set (set places a v) b v) (ap (λ (i : ℕ). Some i) em) ∙ ap (λ (x : ℕ). set (set places x (Some (length ks))) b (Some (length ks))) (sym ea) ∙ ap (λ (x : ℕ). set (set places k.step.a (Some (length ks))) x (Some (length ks))) (sym eb)) in
-    subst (λ (l : List KeptStep). IsState p K (take bl (bs' ++ jb)) (take cl (cofaces' ++ jc)) (take sl (standing' ++ js)) (set (set places a (Some m)) b (Some m)) l) (sym eks)
-    (subst (λ (l : List (List ℕ)). IsState p K (take bl (bs' ++ jb)) (take cl (cofaces' ++ jc)) l (set (set places a (Some m)) b (Some m)) (ks ++ k ∷ [])) (sym (written sl standing' js (esl ∙ sym (count_standing ∙ ap length es0))))
-    (subst (λ (l : List (List ℕ)). IsState p K (take bl (bs' ++ jb)) l standing' (set (set places a (Some m)) b (Some m)) (ks ++ k ∷ [])) (sym (written cl cofaces' jc (ecl ∙ sym (count_cofaces ∙ ap length ec0))))
-    (subst (λ (l : List (List (ℕ × ℕ))). IsState p K l cofaces' standing' (set (set places a (Some m)) b (Some m)) (ks ++ k ∷ [])) (sym (written bl bs' jb (ebl ∙ sym (count ∙ ap length eb0)))) r)))
+    → k ≡ record { step = record { a = a; b = b; inverse = inverse }; row = row }
+    → ((g : ℕ) → Same p (coefficient row g) (left_of p K (steps_of ks) b g))
+    → NonZero p (left_of p K (steps_of ks) b a)
+    → Same p (inverse * left_of p K (steps_of ks) b a) 1
+    → m ≡ length ks → ks' ≡ ks ++ k ∷ []
+    → IsState p K (set (set places a (Some m)) b (Some m)) ks'
+state_after p a b m inverse two K row places ks ks' k s ia ib ek er nz inverts em eks =
+    subst (λ (l : List KeptStep). IsState p K (set (set places a (Some m)) b (Some m)) l) (sym (eks ∙ ap (λ (t : KeptStep). ks ++ t ∷ []) ek))
+    (state_more p two K places (set (set places a (Some m)) b (Some m)) ks (record { step = record { a = a; b = b; inverse = inverse }; row = row }) s ia.0 ib.0 (state_apart p a b K places ks two s nz) ia.1 ib.1 inverts (record { row = er })
+    (ap (λ (i : ℕ). set (set places a (Some i)) b (Some i)) em))
 
 -- the steps are the old ones and that of a and b
 pub one_more : (a b : ℕ) (ks ks' : List KeptStep) (k : KeptStep) → ks' ≡ ks ++ k ∷ [] → k.step.a ≡ a → k.step.b ≡ b → IsOneMore (steps_of ks) (steps_of ks') a b

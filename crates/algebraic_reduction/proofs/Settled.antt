@@ -1,4 +1,4 @@
--- Inclusion, homotopy and transposed projection as solutions of the triangular systems of the columns and of the rows.
+-- The transposed projection as the solution of the triangular system of the rows.
 use Rattle.std.proofs.Common.{◌≡◌, ◌≢◌, ℕ, suc, ◌+◌, ◌-◌, ◌*◌, ◌<◌, ◌≤◌, refl, sym, ap, ◌∙◌, arith, ⊎_elim, List, [], ◌∷◌, length, true, false, cond, eqb, eq-eqb, ne_eqb, subst}
 use Rattle.std.proofs.lemmas.Bool.{cases_eq, cases_lt}
 use Rattle.field_mod.specs.Sums.{total}
@@ -6,26 +6,17 @@ use Rattle.field_mod.specs.Modular.{Same, minus}
 use Rattle.field_mod.proofs.Sums.{total-same, total-add, total-scale, total_same, total-single}
 use Rattle.field_mod.proofs.Modular.{same_by, same_refl, same_sym, same_trans, same-add, same-scale, same-mul, neg_cancel}
 use Rattle.chains.specs.Terms.{coefficient}
-use Rattle.algebraic_reduction.specs.Maps.{IsNoB, projected, rest_at, IsSettled, columns, rows}
-use Rattle.algebraic_reduction.specs.Reduction.{boundary_by, single, Step, IsBoundary, IsStep, IsUnpaired, IsOnLeft, left, project, project_all, include, include_all, homotopy, homotopy_all, AreSteps}
+use Rattle.algebraic_reduction.specs.Maps.{rest_at, IsSettled, rows}
+use Rattle.algebraic_reduction.specs.Reduction.{single, Step, IsBoundary, IsStep, IsUnpaired, IsOnLeft, left, project, project_all, AreSteps}
 use Rattle.algebraic_reduction.specs.Laws.{AreApart}
-use Rattle.algebraic_reduction.specs.Kept.{KeptStep, steps_of, IsKept, AreKept, a_at, b_at, inverse_at, column_at}
-use Rattle.algebraic_reduction.proofs.OneStep.{eqb_sym, include-same}
-use Rattle.algebraic_reduction.proofs.Steps.{step_one, project-off_all}
+use Rattle.algebraic_reduction.specs.Kept.{KeptStep, steps_of, IsKept, AreKept, a_at, b_at}
+use Rattle.algebraic_reduction.proofs.OneStep.{eqb_sym}
+use Rattle.algebraic_reduction.proofs.Steps.{project-off_all}
 use Rattle.algebraic_reduction.proofs.LeftBasis.{decide_unpaired, off_paired}
-use Rattle.algebraic_reduction.proofs.KeptSteps.{unpaired_at, apart_at, column_before, row_before}
+use Rattle.algebraic_reduction.proofs.KeptSteps.{apart_at, row_before}
 use Rattle.algebraic_reduction.proofs.Triangular.{IsTriangular}
 
 module _ (p n : ℕ) (degree : ℕ → ℕ) (two : 2 ≤ p) where
-  pub columns_triangular : (D : ℕ → ℕ → ℕ) (ks : List KeptStep) → IsBoundary p n degree D → AreSteps p n D (steps_of ks) → AreKept p D ks → AreApart (steps_of ks) → IsTriangular p (columns ks)
-  columns_triangular D ks bd st kp apart = record {
-    distinct = λ i j a b e. same_place (b_at ks) (λ i j l q. (apart_at ks i j apart l q).3) i j a b e;
-    later = λ i j l q. column_before p n degree two D ks i j bd st kp apart l q;
-  }
-    where
-      same_place : (f : ℕ → ℕ) → ((i j : ℕ) → i < j → j < length ks → f i ≢ f j) → (i j : ℕ) → i < length ks → j < length ks → f i ≡ f j → i ≡ j
-      same_place f h i j a b e = ⊎_elim (λ q. q) (λ ne. ⊎_elim (λ l. absurd (h i j l b e)) (λ l. absurd (h j i (omega arith) a (sym e))) (cases_lt i j)) (cases_eq i j)
-
   pub rows_triangular : (D : ℕ → ℕ → ℕ) (ks : List KeptStep) → IsBoundary p n degree D → AreSteps p n D (steps_of ks) → AreKept p D ks → AreApart (steps_of ks) → IsTriangular p (rows ks)
   rows_triangular D ks bd st kp apart = record {
     distinct = λ i j a b e. same_place (a_at ks) (λ i j l q. (apart_at ks i j apart l q).0) i j a b e;
@@ -34,82 +25,6 @@ module _ (p n : ℕ) (degree : ℕ → ℕ) (two : 2 ≤ p) where
     where
       same_place : (f : ℕ → ℕ) → ((i j : ℕ) → i < j → j < length ks → f i ≢ f j) → (i j : ℕ) → i < length ks → j < length ks → f i ≡ f j → i ≡ j
       same_place f h i j a b e = ⊎_elim (λ q. q) (λ ne. ⊎_elim (λ l. absurd (h i j l b e)) (λ l. absurd (h j i (omega arith) a (sym e))) (cases_lt i j)) (cases_eq i j)
-
-  -- y, but for the value z at the b of the first step
-  abbrev put : KeptStep → (ℕ → ℕ) → (ℕ → ℕ) → ℕ → ℕ
-  put k z y g = cond (eqb g k.step.b) (z g) (y g)
-
-  put-other : (k : KeptStep) (z y : ℕ → ℕ) (g : ℕ) → g ≢ k.step.b → put k z y g ≡ y g
-  put-other k z y g f = rw (ne_eqb g k.step.b f)
-
-  put-same : (k : KeptStep) (z y : ℕ → ℕ) → put k z y k.step.b ≡ z k.step.b
-  put-same k z y = rw (eq-eqb k.step.b k.step.b refl)
-
-  -- the later equations don't see the b of the first step
-  later_settled : (D : ℕ → ℕ → ℕ) (k : KeptStep) (ks : List KeptStep) → IsBoundary p n degree D → AreSteps p n D (steps_of (k ∷ ks)) → AreKept p D (k ∷ ks) → AreApart (steps_of (k ∷ ks)) → (z0 z y0 y : ℕ → ℕ) → ((i : ℕ) → i < length ks + 1 → IsSettled p n (columns (k ∷ ks)) y0 y i) → (i : ℕ) → i < length ks → IsSettled p n (columns ks) (put k z0 y0) (put k z y) i
-  later_settled D k ks bd st kp apart z0 z y0 y s i l =
-      let f : b_at ks i ≢ k.step.b = λ e. (unpaired_at (ks) k.step.b apart.1 i l).1 (sym e) in
-      let r : Same p (rest_at n (columns ks) (put k z y) i) (rest_at n (columns ks) y i) = total_same p n
-      (λ g. cond (eqb g (b_at ks i)) 0 (column_at ks i g * put k z y g))
-      (λ g. cond (eqb g (b_at ks i)) 0 (column_at ks i g * y g))
-      (λ g _. ⊎_elim
-      (λ e. rw (eq-eqb g (b_at ks i) e) (same_refl p 0))
-      (λ ne. rw (ne_eqb g (b_at ks i) ne) (⊎_elim
-      (λ e. subst (λ (h : ℕ). Same p (column_at ks i h * put k z y h) (column_at ks i h * y h)) (sym e) (same_trans (zero (put k z y k.step.b)) (same_sym (zero (y k.step.b)))))
-      (λ nk. rw (ne_eqb g k.step.b nk) (same_refl p _))
-      (cases_eq g k.step.b)))
-      (cases_eq g (b_at ks i))) in
-      same_trans (same_by p 0 0 _ _ (ap (λ v. v + p * 0) (put-other k z y (b_at ks i) f)))
-      (same_trans (s (suc i) (omega arith))
-      (same-add (same_by p 0 0 _ _ (ap (λ v. v + p * 0) (sym (put-other k z0 y0 (b_at ks i) f)))) (same-scale (p - 1) (same-scale (inverse_at ks i) (same_sym r)))))
-    where
-      zero : (v : ℕ) → Same p (column_at ks i k.step.b * v) 0
-      zero v = same_trans (same-mul (column_before p n degree two D (k ∷ ks) (suc i) 0 bd st kp apart (omega arith) (omega arith)) (same_refl p v)) (same_by p 0 0 _ _ (omega arith))
-
-  -- the first equation's sum is the coefficient of a in the boundary of what is included
-  first_sum : (D : ℕ → ℕ → ℕ) (k : KeptStep) (ks : List KeptStep) (z y : ℕ → ℕ) → IsKept p D k → Same p (z k.step.b) 0 → Same p (boundary_by n D (put k z y) k.step.a) (rest_at n (columns (k ∷ ks)) y 0)
-  first_sum D k ks z y kp none = total_same p n (λ h. put k z y h * D h k.step.a) (λ h. cond (eqb h k.step.b) 0 (coefficient k.column h * y h)) (λ h _. ⊎_elim
-      (λ e. rw (eq-eqb h k.step.b e) (subst (λ (g : ℕ). Same p (z g * D g k.step.a) 0) (sym e) (same_trans (same-mul none (same_refl p (D k.step.b k.step.a))) (same_by p 0 0 _ _ (omega arith)))))
-      (λ f. rw (ne_eqb h k.step.b f) (same_trans (same_by p 0 0 _ (D h k.step.a * y h) (omega arith)) (same-mul (same_sym (kp.column h f)) (same_refl p (y h)))))
-      (cases_eq h k.step.b))
-
-  -- what keeps the columns' equations from y0 on is the inclusion of y0
-  pub include_settled : (D : ℕ → ℕ → ℕ) (ks : List KeptStep) → IsBoundary p n degree D → AreSteps p n D (steps_of ks) → AreKept p D ks → AreApart (steps_of ks) → (y0 y : ℕ → ℕ) → IsOnLeft p (steps_of ks) y0 → ((g : ℕ) → IsNoB (steps_of ks) g → Same p (y g) (y0 g)) → ((i : ℕ) → i < length ks → IsSettled p n (columns ks) y0 y i) → (g : ℕ) → Same p (include_all p n D (steps_of ks) y0 g) (y g)
-  include_settled D [] bd st kp apart y0 y off others s g = same_sym (others g tt)
-  include_settled D (k ∷ ks) bd st kp apart y0 y off others s g =
-      let after = left p D k.step in
-      let y1 = put k y0 y in
-      let zs : (h : ℕ) → put k y0 y0 h ≡ y0 h = λ h. elim (eqb h k.step.b) as (λ v. cond v (y0 h) (y0 h) ≡ y0 h) [ true ↦ refl | false ↦ refl ] in
-      let inner : (h : ℕ) → Same p (include_all p n after (steps_of ks) y0 h) (y1 h) = include_settled after ks (step_one p n degree two bd st.0) st.1 kp.1 apart.2 y0 y1 off.1
-      (λ h u. ⊎_elim (λ e. rw (eq-eqb h k.step.b e) (same_refl p (y0 h))) (λ f. rw (ne_eqb h k.step.b f) (others h (f, u))) (cases_eq h k.step.b))
-      (λ i l. subst (λ (v : ℕ). Same p (y1 (b_at ks i)) (v + minus p (inverse_at ks i * rest_at n (columns ks) y1 i))) (zs (b_at ks i)) (later_settled D k ks bd st kp apart y0 y0 y0 y (λ j q. s j (omega arith)) i l)) in
-      same_trans (include-same p n degree D k.step two bd st.0 (include_all p n after (steps_of ks) y0) y1 inner g)
-      (⊎_elim
-      (λ e. subst (λ (h : ℕ). Same p (include p n D k.step y1 h) (y h)) (sym e) (rw (eq-eqb k.step.b k.step.b refl) (same_trans (same-add (same_refl p (y0 k.step.b)) (same-scale (p - 1) (same-scale k.step.inverse (first_sum D k ks y0 y kp.0 off.0.at_b)))) (same_sym (s 0 (omega arith))))))
-      (λ f. rw (ne_eqb g k.step.b f) (same_refl p (y g)))
-      (cases_eq g k.step.b))
-
-  -- what keeps the columns' equations, from what the homotopies of the single steps give on, is the homotopy of x
-  pub homotopy_settled : (D : ℕ → ℕ → ℕ) (ks : List KeptStep) → IsBoundary p n degree D → AreSteps p n D (steps_of ks) → AreKept p D ks → AreApart (steps_of ks) → (x w y : ℕ → ℕ) → ((g : ℕ) → IsNoB (steps_of ks) g → Same p (w g) 0) → ((i : ℕ) → i < length ks → Same p (w (b_at ks i)) (inverse_at ks i * projected p D ks x i (a_at ks i))) → ((g : ℕ) → IsNoB (steps_of ks) g → Same p (y g) (w g)) → ((i : ℕ) → i < length ks → IsSettled p n (columns ks) w y i) → (g : ℕ) → Same p (homotopy_all p n D (steps_of ks) x g) (y g)
-  homotopy_settled D [] bd st kp apart x w y off weights others s g = same_sym (same_trans (others g tt) (off g tt))
-  homotopy_settled D (k ∷ ks) bd st kp apart x w y off weights others s g =
-      let after = left p D k.step in
-      let none : ℕ → ℕ = λ _. 0 in
-      let w1 = put k none w in
-      let y1 = put k none y in
-      let x1 = project p D k.step x in
-      let inner : (h : ℕ) → Same p (homotopy_all p n after (steps_of ks) x1 h) (y1 h) = homotopy_settled after ks (step_one p n degree two bd st.0) st.1 kp.1 apart.2 x1 w1 y1
-      (λ h u. ⊎_elim (λ e. rw (eq-eqb h k.step.b e) (same_refl p 0)) (λ f. rw (ne_eqb h k.step.b f) (off h (f, u))) (cases_eq h k.step.b))
-      (λ i l. let f : b_at ks i ≢ k.step.b = λ e. (unpaired_at ks k.step.b apart.1 i l).1 (sym e) in same_trans (same_by p 0 0 _ _ (ap (λ v. v + p * 0) (put-other k none w (b_at ks i) f))) (weights (suc i) (omega arith)))
-      (λ h u. ⊎_elim (λ e. rw (eq-eqb h k.step.b e) (same_refl p 0)) (λ f. rw (ne_eqb h k.step.b f) (others h (f, u))) (cases_eq h k.step.b))
-      (λ i l. later_settled D k ks bd st kp apart none none w y (λ j q. s j (omega arith)) i l) in
-      same_trans (same-add (same_refl p (homotopy k.step x g)) (include-same p n degree D k.step two bd st.0 (homotopy_all p n after (steps_of ks) x1) y1 inner g))
-      (⊎_elim
-      (λ e. subst (λ (h : ℕ). Same p (homotopy k.step x h + include p n D k.step y1 h) (y h)) (sym e) (rw (eq-eqb k.step.b k.step.b refl) (same_trans (same-add (same_sym (weights 0 (omega arith))) (same-add (same_refl p 0) (same-scale (p - 1) (same-scale k.step.inverse (first_sum D k ks none y kp.0 (same_refl p 0)))))) (same_trans (same_by p 0 0 _ (w k.step.b + minus p (k.step.inverse * rest_at n (columns (k ∷ ks)) y 0)) (omega arith)) (same_sym (s 0 (omega arith)))))))
-      (λ f. rw (ne_eqb g k.step.b f) (same_by p 0 0 _ _ (omega arith)))
-      (cases_eq g k.step.b))
-
-  -- ---- the transposed projection
 
   -- the product of two chains over n generators
   abbrev pub paired : (ℕ → ℕ) → (ℕ → ℕ) → ℕ

@@ -4,5 +4,4 @@ pub mod LogWords
 pub mod Maps
 pub mod Reduction
 pub mod Restrictions
-pub mod Sides
 pub mod State

@@ -1,54 +1,57 @@
 //! The descent of a chain along the rows of the steps.
-ghost use Rattle.std.specs.Prelude.{◌≡◌, ◌≢◌, ℕ, ◌+◌, ◌*◌, ◌%◌, ◌<◌, ◌≤◌, ◌⊎◌, List, length, IfOk, OnOk, IfSome, None, Some, if◌then◌else◌, ◌==◌};
+ghost use Rattle.std.specs.Prelude.{◌≡◌, ◌≢◌, ℕ, ◌+◌, ◌*◌, ◌%◌, ◌<◌, ◌≤◌, ◌⊎◌, List, length, take, IfOk, OnOk, IfSome, None, Some, if◌then◌else◌, ◌==◌};
 ghost use Rattle.field_mod.specs.Modular.{Same};
 ghost use Rattle.chains.specs.Terms.{coefficient};
 ghost use Rattle.chains.specs.ChainComplex.{incidence};
-ghost use Rattle.algebraic_reduction.specs.Laws.{project_of};
+ghost use Rattle.algebraic_reduction.specs.Laws.{left_of, project_of};
+ghost use Rattle.algebraic_reduction.specs.Reduction.{IsUnpaired};
 ghost use Rattle.algebraic_reduction.specs.Kept.{steps_of, a_at};
 ghost use Rattle.algebraic_reduction.specs.Maps.{HasDescended};
 ghost use Rattle.algebraic_reduction.specs.State.{IsState, place_at};
 
 use crate::numbers::Numbers;
-use crate::stepping::{Parts, place_of};
+use crate::parts::{Parts, place_of};
 use chains::Chain;
 use field_mod::Field;
 use std::alloc::{AllocError, Global};
 
-/// The step from `from` on whose a the generator is.
-fn step_of_a<const P: u16>(parts: &Parts<P>, generator: u32, from: u32) -> Option<u32>
-    requires state { IsState P parts.now.complex parts.now.boundaries.items parts.now.cofaces.items parts.now.standing.items parts.now.places.items parts.now.steps.items }
-    ensures some { IfSome result (λ i. (from ≤ i) × (i < length parts.now.steps.items) × (a_at parts.now.steps.items i ≡ generator)) }
-    ensures found { (i : ℕ) → from ≤ i → i < length parts.now.steps.items → a_at parts.now.steps.items i ≡ generator → result ≡ Some i }
+/// The step from `from` on and before `bound` whose a the generator is.
+fn step_of_a<const P: u16>(parts: &Parts<P>, generator: u32, from: u32, bound: u32) -> Option<u32>
+    requires state { IsState P parts.now.complex parts.now.places.items parts.now.steps.items }
+    ensures some { IfSome result (λ i. (from ≤ i) × (i < bound) × (a_at parts.now.steps.items i ≡ generator)) }
+    ensures found { (i : ℕ) → from ≤ i → i < bound → i < length parts.now.steps.items → a_at parts.now.steps.items i ≡ generator → result ≡ Some i }
 {
     let place = place_of(&parts.places, generator)?;
-    if from <= place && parts.steps[place as usize].a() == generator {
+    if from <= place && place < bound && parts.steps[place as usize].a() == generator {
         Some(place)
     } else {
         None
     }
 }
 
-/// Adds a number that stands at a generator: to what is pending at the step from `from` on whose a it is, or to what is left
-/// where it is in no step. At the a of an earlier step and at a b it is dropped.
+/// Adds a number that stands at a generator: to what is pending at the step from `from` on and before `bound` whose a it is, or
+/// to what is left where it is in no step. At the a of another step and at a b it is dropped.
 fn spread_one<const P: u16>(
     parts: &Parts<P>,
     field: Field<P>,
     generator: u32,
     number: u16,
     from: u32,
+    bound: u32,
     pending: &mut Numbers<P>,
     left: &mut Vec<(u32, u16)>,
 ) -> Result<(), AllocError>
     requires below { number < P }
-    requires state { IsState P parts.now.complex parts.now.boundaries.items parts.now.cofaces.items parts.now.standing.items parts.now.places.items parts.now.steps.items }
+    requires bounded { bound ≤ length parts.now.steps.items }
+    requires state { IsState P parts.now.complex parts.now.places.items parts.now.steps.items }
     ensures left { OnOk result ((g : ℕ) → place_at parts.now.places.items g ≡ None → coefficient left.new.items g ≡ coefficient left.old.items g + (if generator == g then number else 0)) }
     ensures dropped { OnOk result ((g i : ℕ) → place_at parts.now.places.items g ≡ Some i → coefficient left.new.items g ≡ coefficient left.old.items g) }
-    ensures pending { OnOk result ((j : ℕ) → from ≤ j → j < length parts.now.steps.items → Same P (coefficient pending.new j) (coefficient pending.old j + (if generator == a_at parts.now.steps.items j then number else 0))) }
-    ensures inside { OnOk result ((j : ℕ) → coefficient pending.new j ≢ 0 → (coefficient pending.old j ≢ 0) ⊎ ((from ≤ j) × (j < length parts.now.steps.items))) }
+    ensures pending { OnOk result ((j : ℕ) → from ≤ j → j < bound → Same P (coefficient pending.new j) (coefficient pending.old j + (if generator == a_at parts.now.steps.items j then number else 0))) }
+    ensures inside { OnOk result ((j : ℕ) → coefficient pending.new j ≢ 0 → (coefficient pending.old j ≢ 0) ⊎ ((from ≤ j) × (j < bound))) }
 {
     if place_of(&parts.places, generator).is_none() {
         left.push((generator, number))?;
-    } else if let Some(place) = step_of_a(parts, generator, from) {
+    } else if let Some(place) = step_of_a(parts, generator, from, bound) {
         pending.add(field, place, number)?;
     }
     Ok(())
@@ -61,46 +64,50 @@ fn spread<const P: u16>(
     chain: &Chain<P>,
     scale: u16,
     from: u32,
+    bound: u32,
     pending: &mut Numbers<P>,
     left: &mut Vec<(u32, u16)>,
 ) -> Result<(), AllocError>
     requires below { scale < P }
-    requires state { IsState P parts.now.complex parts.now.boundaries.items parts.now.cofaces.items parts.now.standing.items parts.now.places.items parts.now.steps.items }
+    requires bounded { bound ≤ length parts.now.steps.items }
+    requires state { IsState P parts.now.complex parts.now.places.items parts.now.steps.items }
     ensures left { OnOk result ((g : ℕ) → place_at parts.now.places.items g ≡ None → Same P (coefficient left.new.items g) (coefficient left.old.items g + scale * coefficient chain.now g)) }
     ensures dropped { OnOk result ((g i : ℕ) → place_at parts.now.places.items g ≡ Some i → coefficient left.new.items g ≡ coefficient left.old.items g) }
-    ensures pending { OnOk result ((j : ℕ) → from ≤ j → j < length parts.now.steps.items → Same P (coefficient pending.new j) (coefficient pending.old j + scale * coefficient chain.now (a_at parts.now.steps.items j))) }
-    ensures inside { OnOk result ((j : ℕ) → coefficient pending.new j ≢ 0 → (coefficient pending.old j ≢ 0) ⊎ ((from ≤ j) × (j < length parts.now.steps.items))) }
+    ensures pending { OnOk result ((j : ℕ) → from ≤ j → j < bound → Same P (coefficient pending.new j) (coefficient pending.old j + scale * coefficient chain.now (a_at parts.now.steps.items j))) }
+    ensures inside { OnOk result ((j : ℕ) → coefficient pending.new j ≢ 0 → (coefficient pending.old j ≢ 0) ⊎ ((from ≤ j) × (j < bound))) }
 {
     for index in 0..chain.len() {
         let (generator, number) = chain.term(index);
         let scaled = field.mul(scale, number);
-        spread_one(parts, field, generator, scaled, from, pending, left)?;
+        spread_one(parts, field, generator, scaled, from, bound, pending, left)?;
     }
     Ok(())
 }
 
-/// What the descent of a chain comes to: terms at generators in no step, and what the homotopies of the single steps give on
-/// the way.
+/// What the descent of a chain comes to: terms at generators in no step, and for each step that was made its number: what its
+/// homotopy gives its b.
 #[derive(Drop)]
 pub struct Descended {
     pub left: Vec<(u32, u16)>,
     pub raised: Vec<(u32, u16)>,
 }
 
-/// Moves what stands at the a of a step along its row, step after step. Only steps that the chain meets are made.
+/// Moves what stands at the a of a step before `bound` along its row, step after step. Only steps that the chain meets are made.
 pub fn descend<const P: u16>(
     parts: &Parts<P>,
     alloc: Global,
     field: Field<P>,
+    bound: u32,
     start: &Chain<P>,
 ) -> Result<Descended, AllocError>
-    requires state { IsState P parts.now.complex parts.now.boundaries.items parts.now.cofaces.items parts.now.standing.items parts.now.places.items parts.now.steps.items }
-    ensures { IfOk result (λ d. HasDescended P (incidence parts.now.complex.boundaries) parts.now.places.items parts.now.steps.items (coefficient start.now) d.left.items d.raised.items) }
+    requires bounded { bound ≤ length parts.now.steps.items }
+    requires state { IsState P parts.now.complex parts.now.places.items parts.now.steps.items }
+    ensures { IfOk result (λ d. HasDescended P (incidence parts.now.complex.boundaries) parts.now.places.items (take bound parts.now.steps.items) (coefficient start.now) d.left.items d.raised.items) }
 {
     let mut pending = Numbers::new(alloc, field);
     let mut left = Vec::new(alloc);
     let mut raised = Vec::new(alloc);
-    spread(parts, field, start, 1, 0, &mut pending, &mut left)?;
+    spread(parts, field, start, 1, 0, bound, &mut pending, &mut left)?;
     let mut from = 0;
     'descending: while let Some((place, number)) = pending.take_first() {
         let step = &parts.steps[place as usize];
@@ -113,10 +120,11 @@ pub fn descend<const P: u16>(
             step.row(),
             scale,
             from,
+            bound,
             &mut pending,
             &mut left,
         )?;
-        raised.push((step.b(), weight))?;
+        raised.push((place, weight))?;
     }
     Ok(Descended { left, raised })
 }
@@ -148,12 +156,29 @@ pub fn project<const P: u16>(
     field: Field<P>,
     chain: &Chain<P>,
 ) -> Result<Chain<P>, AllocError>
-    requires state { IsState P parts.now.complex parts.now.boundaries.items parts.now.cofaces.items parts.now.standing.items parts.now.places.items parts.now.steps.items }
+    requires state { IsState P parts.now.complex parts.now.places.items parts.now.steps.items }
     ensures { IfOk result (λ c. (g : ℕ) → Same P (coefficient c g) (project_of P parts.now.complex (steps_of parts.now.steps.items) (coefficient chain.now) g)) }
 {
-    let descended = descend(parts, alloc, field, chain)?;
+    let count = parts.steps.len() as u32;
+    let descended = descend(parts, alloc, field, count, chain)?;
     let Descended { left, raised } = descended;
     drop(raised);
     let projected = Chain::from_terms(alloc, field, &left)?;
     Ok(projected)
+}
+
+/// What the steps leave of the boundary of a generator that is in none: the projection of its boundary.
+pub fn left_boundary<const P: u16>(
+    parts: &Parts<P>,
+    alloc: Global,
+    field: Field<P>,
+    generator: u32,
+) -> Result<Chain<P>, AllocError>
+    requires inside { generator < length parts.now.complex.boundaries }
+    requires alive { IsUnpaired (steps_of parts.now.steps.items) generator }
+    requires state { IsState P parts.now.complex parts.now.places.items parts.now.steps.items }
+    ensures { IfOk result (λ c. (g : ℕ) → Same P (coefficient c g) (left_of P parts.now.complex (steps_of parts.now.steps.items) generator g)) }
+{
+    let left = project(parts, alloc, field, parts.complex.boundary(generator))?;
+    Ok(left)
 }

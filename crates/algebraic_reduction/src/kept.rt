@@ -5,12 +5,11 @@ ghost use Rattle.chains.specs.Terms.{IsNormal};
 use chains::Chain;
 use std::marker::Model;
 
-/// A step with what the maps need of it: its two generators, the inverse of their incidence number, the boundary of b when the
-/// step was made (its row), and the incidence numbers of the other generators and a then (its column).
+/// A step with what the maps need of it: its two generators, the inverse of their incidence number, and the boundary of b when
+/// the step was made (its row).
 #[derive(Drop)]
 pub struct Kept<const P: u16> {
     row: Chain<P>,
-    column: Chain<P>,
     a: u32,
     b: u32,
     inverse: u16,
@@ -23,26 +22,19 @@ impl<const P: u16> Model for Kept<P> {
 
     ghost Value = { KeptStep };
 
-    ghost view = { λ k. record { step = record { a = k.a; b = k.b; inverse = k.inverse }; row = k.row; column = k.column } };
+    ghost view = { λ k. record { step = record { a = k.a; b = k.b; inverse = k.inverse }; row = k.row } };
 
-    ghost invariant = { λ k. record { inverse : k.inverse < P; row : IsNormal P k.row; column : IsNormal P k.column } };
+    ghost invariant = { λ k. record { inverse : k.inverse < P; row : IsNormal P k.row } };
 }
 
 impl<const P: u16> Kept<P> {
-    /// The step of a and b with the inverse of their incidence number, its row and its column.
-    pub fn new(a: u32, b: u32, inverse: u16, row: Chain<P>, column: Chain<P>) -> Self
+    /// The step of a and b with the inverse of their incidence number, and its row.
+    pub fn new(a: u32, b: u32, inverse: u16, row: Chain<P>) -> Self
         requires inverse { inverse < P }
         requires row { IsNormal P row }
-        requires column { IsNormal P column }
-        ensures { result ≡ record { step = record { a = a; b = b; inverse = inverse }; row = row.entry; column = column.entry } }
+        ensures { result ≡ record { step = record { a = a; b = b; inverse = inverse }; row = row.entry } }
     {
-        Kept {
-            row,
-            column,
-            a,
-            b,
-            inverse,
-        }
+        Kept { row, a, b, inverse }
     }
 
     /// The generator whose boundary the step takes.
@@ -73,13 +65,5 @@ impl<const P: u16> Kept<P> {
         ensures normal { IsNormal P self.now.row }
     {
         &self.row
-    }
-
-    /// The incidence numbers of the other generators and a when the step was made.
-    pub fn column(&self) -> &Chain<P>
-        ensures value { result.now ≡ self.now.column }
-        ensures normal { IsNormal P self.now.column }
-    {
-        &self.column
     }
 }

@@ -33,7 +33,7 @@ pub fn steps_within_leave_restrictions()
 {}
 
 /// An acyclic part that is reduced in itself is gone.
-#[tactic(auto, using(crate::proofs::Parts::acyclic_parts))]
+#[tactic(auto, using(crate::proofs::AcyclicParts::acyclic_parts))]
 pub fn acyclic_parts_are_taken()
     ensures { AcyclicPartsAreTaken }
 {}

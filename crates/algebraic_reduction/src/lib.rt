@@ -2,7 +2,6 @@
 //! homotopy of all steps.
 #![tactic(auto)]
 
-mod clearing;
 mod descending;
 mod due;
 mod generators;
@@ -10,15 +9,12 @@ mod kept;
 mod laws;
 mod log;
 mod maps;
+mod naming;
 mod numbers;
+mod parts;
 mod plan;
 mod reducing;
 mod settling;
-mod side;
-mod starting;
-mod stepping;
-#[cfg(test)]
-mod tests;
 
 pub use laws::{
     acyclic_parts_are_taken, free_steps_leave_restrictions, left_generators_are_basis,

@@ -9,34 +9,36 @@ ghost use Rattle.algebraic_reduction.specs.Reduction.{IsOnLeft, IsUnpaired, sing
 ghost use Rattle.algebraic_reduction.specs.Laws.{AreStepsOf, left_of, project_of, include_of, homotopy_of, IsReduction, NothingLeft};
 ghost use Rattle.algebraic_reduction.specs.LogWords.{pairs, IsOneMore, AreFurther};
 
-use crate::descending::project;
+use crate::descending::{left_boundary, project};
+use crate::generators::Generators;
 use crate::maps;
+use crate::naming::name_rows;
+use crate::parts::{Parts, place_of, start_parts, take_row};
 use crate::reducing::reduce_parts;
-use crate::starting::start_parts;
-use crate::stepping::{Parts, place_of, take_pair};
 use chains::{Chain, Complex};
 use field_mod::Field;
 use std::alloc::{AllocError, Global};
 use std::marker::Model;
 
 /// A complex with the list of the pairs by which it was reduced. It is seen as the complex, as it was at the start, and the
-/// list of the steps.
+/// list of the steps. Kept are the rows of the steps alone; the index of the rows is empty until it is asked for.
 #[derive(Drop)]
 pub struct Log<const P: u16> {
     parts: Parts<P>,
+    names: Vec<Generators>,
     alloc: Global,
 }
 
 impl<const P: u16> Model for Log<P> {
     ghost use Rattle.algebraic_reduction.specs.Kept.{steps_of};
-    ghost use Rattle.algebraic_reduction.specs.State.{IsState};
+    ghost use Rattle.algebraic_reduction.specs.State.{IsLog};
     ghost use Rattle.algebraic_reduction.specs.LogWords.{Reduced};
 
     ghost Value = { Reduced };
 
     ghost view = { λ l. record { complex = l.parts.complex; steps = steps_of l.parts.steps.items } };
 
-    ghost invariant = { λ l. IsState P l.parts.complex l.parts.boundaries.items l.parts.cofaces.items l.parts.standing.items l.parts.places.items l.parts.steps.items };
+    ghost invariant = { λ l. IsLog P l.parts.complex l.parts.places.items l.parts.steps.items l.names.items };
 }
 
 impl<const P: u16> Log<P> {
@@ -45,7 +47,11 @@ impl<const P: u16> Log<P> {
         ensures { IfOk result (λ l. (l.complex ≡ complex.entry) × (l.steps ≡ [])) }
     {
         let parts = start_parts(alloc, complex)?;
-        Ok(Log { parts, alloc })
+        Ok(Log {
+            parts,
+            names: Vec::new(alloc),
+            alloc,
+        })
     }
 
     /// The complex, as it was at the start.
@@ -63,13 +69,18 @@ impl<const P: u16> Log<P> {
         place_of(&self.parts.places, generator).is_none()
     }
 
-    /// What the steps leave of the boundary of a generator that is in none.
-    pub fn left_boundary(&self, generator: u32) -> &Chain<P>
+    /// What the steps leave of the boundary of a generator that is in none, at the cost of the steps that its boundary meets.
+    pub fn left_boundary(
+        &self,
+        alloc: Global,
+        field: Field<P>,
+        generator: u32,
+    ) -> Result<Chain<P>, AllocError>
         requires inside { generator < length self.now.complex.boundaries }
         requires alive { IsUnpaired self.now.steps generator }
-        ensures { (g : ℕ) → Same P (coefficient result.now g) (left_of P self.now.complex self.now.steps generator g) }
+        ensures { IfOk result (λ c. (g : ℕ) → Same P (coefficient c g) (left_of P self.now.complex self.now.steps generator g)) }
     {
-        &self.parts.boundaries[generator as usize]
+        left_boundary(&self.parts, alloc, field, generator)
     }
 
     /// How many steps there are. Its clauses hand out what a log is: a complex, a list of steps that may be made on it, and
@@ -101,9 +112,19 @@ impl<const P: u16> Log<P> {
         ensures complex { IfOk result (λ l. l.complex ≡ self.entry.complex) }
         ensures one_more { IfOk result (λ l. IsOneMore self.entry.steps l.steps a b) }
     {
-        let Log { mut parts, alloc } = self;
-        take_pair(&mut parts, alloc, field, a, b)?;
-        Ok(Log { parts, alloc })
+        let Log {
+            mut parts,
+            names,
+            alloc,
+        } = self;
+        drop(names);
+        let row = left_boundary(&parts, alloc, field, b)?;
+        take_row(&mut parts, field, a, b, row)?;
+        Ok(Log {
+            parts,
+            names: Vec::new(alloc),
+            alloc,
+        })
     }
 
     /// Further steps, until no boundary is left. Where memory is wanting the log is consumed.
@@ -112,9 +133,37 @@ impl<const P: u16> Log<P> {
         ensures further { IfOk result (λ l. AreFurther self.entry.steps l.steps) }
         ensures nothing_left { IfOk result (λ l. NothingLeft P l.complex l.steps) }
     {
-        let Log { mut parts, alloc } = self;
+        let Log {
+            mut parts,
+            names,
+            alloc,
+        } = self;
+        drop(names);
         reduce_parts(&mut parts, alloc, field)?;
-        Ok(Log { parts, alloc })
+        Ok(Log {
+            parts,
+            names: Vec::new(alloc),
+            alloc,
+        })
+    }
+
+    /// The same log with the index of its rows, by which transposed projections cost no more than the steps in whose rows
+    /// their chains stand. Further steps drop it. Where memory is wanting the log is consumed.
+    pub fn index_rows(self) -> Result<Log<P>, AllocError>
+        ensures { IfOk result (λ l. l ≡ self.entry) }
+    {
+        let Log {
+            parts,
+            names,
+            alloc,
+        } = self;
+        drop(names);
+        let names = name_rows(alloc, &parts.steps, parts.complex.len())?;
+        Ok(Log {
+            parts,
+            names,
+            alloc,
+        })
     }
 
     /// The projection of a chain to what is left. Its cost is that of the steps that the chain meets.
@@ -129,7 +178,7 @@ impl<const P: u16> Log<P> {
         project(&self.parts, alloc, field, chain)
     }
 
-    /// The inclusion of a chain on what is left, at the cost of the steps in whose columns it stands.
+    /// The inclusion of a chain on what is left, at the cost of the steps that its boundary meets.
     pub fn include(
         &self,
         alloc: Global,
@@ -155,7 +204,8 @@ impl<const P: u16> Log<P> {
     }
 
     /// The transposed projection of a chain: the chain whose coefficient at a generator is the product of the given one with
-    /// the projection of the generator. Past the generators it is the given chain. Its cost is that of the steps in whose rows it stands.
+    /// the projection of the generator. Past the generators it is the given chain. With the index of the rows its cost is that of the
+    /// steps in whose rows it stands; without it, the index is made for this call.
     pub fn transposed_projection(
         &self,
         alloc: Global,
@@ -165,6 +215,10 @@ impl<const P: u16> Log<P> {
         ensures value { IfOk result (λ c. (g : ℕ) → g < length self.now.complex.boundaries → Same P (coefficient c g) (total (length self.now.complex.boundaries) (λ h. coefficient chain.now h * project_of P self.now.complex self.now.steps (single g) h))) }
         ensures past { IfOk result (λ c. (g : ℕ) → length self.now.complex.boundaries ≤ g → Same P (coefficient c g) (coefficient chain.now g)) }
     {
-        maps::transposed_projection(&self.parts, alloc, field, chain)
+        if self.names.len() == self.parts.complex.len() as usize {
+            return maps::transposed_projection(&self.parts, &self.names, alloc, field, chain);
+        }
+        let names = name_rows(alloc, &self.parts.steps, self.parts.complex.len())?;
+        maps::transposed_projection(&self.parts, &names, alloc, field, chain)
     }
 }

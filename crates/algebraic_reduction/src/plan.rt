@@ -1,114 +1,247 @@
-//! Which pairs are taken: a plan has no say in what is right, only in what is quick.
-use crate::generators::Generators;
-use chains::Chain;
+//! Which pairs are taken, and in which order: a plan has no say in what is right, only in what is quick.
+use crate::parts::{Parts, place_of};
+use chains::{Chain, Complex};
 use std::alloc::{AllocError, Global};
 use std::collections::VecDeque;
 
-/// How many generators in no step have a boundary that names a generator, and a queue of those that have come to be named by
-/// one alone.
+/// A generator b that is to be taken with a, if a stands in its row.
+#[derive(Clone, Copy)]
+pub struct Turn {
+    pub b: u32,
+    pub a: u32,
+}
+
+/// What is known of a generator: how many boundaries of the degree in turn name it, the exclusive or of the generators that they
+/// are the boundaries of, how much the rows weigh in which it stands, and whether it has its place in the order.
+#[derive(Clone, Copy)]
+struct Mark {
+    count: u32,
+    names: u32,
+    weight: u32,
+    ordered: bool,
+}
+
+/// The generators of each degree, and marks.
 #[derive(Drop)]
 pub struct Plan {
-    counts: Vec<u32>,
+    marks: Vec<Mark>,
+    degrees: Vec<Vec<u32>>,
     free: VecDeque<u32>,
+    order: Vec<Turn>,
 }
 
 impl Plan {
-    /// The plan for so many generators that no boundary names.
-    fn new(alloc: Global, generators: usize) -> Result<Plan, AllocError> {
-        let mut counts = Vec::with_capacity(alloc, generators)?;
-        for _index in 0..generators {
-            counts.push(0u32)?;
-        }
-        Ok(Plan {
-            counts,
+    /// The plan for a complex.
+    pub fn of<const P: u16>(alloc: Global, complex: &Complex<P>) -> Result<Plan, AllocError> {
+        let mut plan = Plan {
+            marks: Vec::with_capacity(alloc, complex.len() as usize)?,
+            degrees: Vec::new(alloc),
             free: VecDeque::new(alloc),
-        })
-    }
-
-    /// The plan of these boundaries. Each generator that is named waits in the queue, in the order in which it is first named:
-    /// so free pairs are taken in one sweep over the complex, and both inclusions and projections stay short.
-    pub fn of<const P: u16>(alloc: Global, boundaries: &[Chain<P>]) -> Result<Plan, AllocError> {
-        let mut plan = Plan::new(alloc, boundaries.len())?;
-        for boundary in boundaries {
-            plan.add(boundary)?;
+            order: Vec::new(alloc),
+        };
+        for generator in 0..complex.len() {
+            plan.marks.push(Mark {
+                count: 0,
+                names: 0,
+                weight: 0,
+                ordered: false,
+            })?;
+            plan.list(alloc, generator, complex.degree(generator))?;
         }
         Ok(plan)
     }
 
-    /// The first of the generators that have come to be named by one boundary alone.
-    pub fn next_free(&mut self) -> Option<u32> {
-        self.free.pop_front()
+    fn list(&mut self, alloc: Global, generator: u32, degree: u8) -> Result<(), AllocError> {
+        let place = degree as usize;
+        for _missing in self.degrees.len()..place.saturating_add(1) {
+            self.degrees.push(Vec::new(alloc))?;
+        }
+        if place < self.degrees.len() {
+            self.degrees[place].push(generator)?;
+        }
+        Ok(())
     }
 
-    /// How many boundaries name a generator.
-    pub fn count(&self, generator: u32) -> u32 {
-        let place = generator as usize;
-        if place < self.counts.len() {
-            self.counts[place]
+    /// How many degrees there are.
+    pub fn degrees(&self) -> usize {
+        self.degrees.len()
+    }
+
+    /// The turn at a place of the order, if there is one.
+    pub fn turn(&self, place: usize) -> Option<Turn> {
+        self.order.get(place).copied()
+    }
+
+    /// Puts the generators of a degree that are in no step into an order. From degree 2 on what can be taken by free pairs comes
+    /// first; where none is free, one generator is set aside to the end. So nearly all rows stay as they are. In degree 1 the
+    /// order is that of the numbers, since all rows have two terms.
+    pub fn order<const P: u16>(
+        &mut self,
+        alloc: Global,
+        parts: &Parts<P>,
+        degree: usize,
+    ) -> Result<usize, AllocError> {
+        self.order = Vec::new(alloc);
+        let mut waiting = Vec::new(alloc);
+        if degree < self.degrees.len() {
+            std::mem::swap(&mut waiting, &mut self.degrees[degree]);
+        }
+        if degree < 2 {
+            self.order_as_numbered(&waiting)?;
         } else {
-            0
+            self.count_all(parts, &waiting)?;
+            self.order_free_first(alloc, parts, &waiting)?;
         }
+        Ok(self.order.len())
     }
 
-    fn set(&mut self, generator: u32, count: u32) -> Result<(), AllocError> {
-        let place = generator as usize;
-        if place < self.counts.len() {
-            self.counts[place] = count;
-        }
-        if count == 1 {
-            self.free.push_back(generator)?;
+    fn order_as_numbered(&mut self, generators: &[u32]) -> Result<(), AllocError> {
+        for b in generators {
+            self.order.push(Turn { b: *b, a: *b })?;
         }
         Ok(())
     }
 
-    /// One more boundary.
-    pub fn add<const P: u16>(&mut self, boundary: &Chain<P>) -> Result<(), AllocError> {
+    fn count_all<const P: u16>(
+        &mut self,
+        parts: &Parts<P>,
+        generators: &[u32],
+    ) -> Result<(), AllocError> {
+        for b in generators {
+            if place_of(&parts.places, *b).is_some() {
+                self.mark_ordered(*b);
+            } else if *b < parts.complex.len() {
+                self.count(*b, parts.complex.boundary(*b));
+            }
+        }
+        for b in generators {
+            if *b < parts.complex.len() {
+                self.queue_free(parts.complex.boundary(*b))?;
+            }
+        }
+        Ok(())
+    }
+
+    fn count<const P: u16>(&mut self, b: u32, boundary: &Chain<P>) {
         for (generator, _) in boundary.terms() {
-            let count = self.count(*generator);
-            self.set(*generator, count.saturating_add(1))?;
+            if let Some(mark) = self.marks.get_mut(*generator as usize) {
+                mark.count = mark.count.saturating_add(1);
+                mark.names ^= b;
+            }
+        }
+    }
+
+    fn queue_free<const P: u16>(&mut self, boundary: &Chain<P>) -> Result<(), AllocError> {
+        for (generator, _) in boundary.terms() {
+            if self.count_of(*generator) == 1 {
+                self.free.push_back(*generator)?;
+            }
         }
         Ok(())
+    }
+
+    fn count_of(&self, generator: u32) -> u32 {
+        match self.marks.get(generator as usize) {
+            Some(mark) => mark.count,
+            None => 0,
+        }
+    }
+
+    fn weight_of(&self, generator: u32) -> u32 {
+        match self.marks.get(generator as usize) {
+            Some(mark) => mark.weight,
+            None => 0,
+        }
+    }
+
+    /// Whether a generator has its place in the order; from now on it has.
+    fn mark_ordered(&mut self, generator: u32) -> bool {
+        match self.marks.get_mut(generator as usize) {
+            Some(mark) => {
+                let before = mark.ordered;
+                mark.ordered = true;
+                before
+            }
+            None => true,
+        }
     }
 
     /// One boundary less.
-    pub fn remove<const P: u16>(&mut self, boundary: &Chain<P>) -> Result<(), AllocError> {
+    fn uncount<const P: u16>(&mut self, b: u32, boundary: &Chain<P>) -> Result<(), AllocError> {
         for (generator, _) in boundary.terms() {
-            let count = self.count(*generator);
-            self.set(*generator, count.saturating_sub(1))?;
+            if let Some(mark) = self.marks.get_mut(*generator as usize) {
+                mark.count = mark.count.saturating_sub(1);
+                mark.names ^= b;
+            }
+        }
+        self.queue_free(boundary)?;
+        Ok(())
+    }
+
+    fn order_free<const P: u16>(&mut self, parts: &Parts<P>) -> Result<(), AllocError> {
+        'turns: for _turn in 0..u64::MAX {
+            let Some(a) = self.free.pop_front() else {
+                return Ok(());
+            };
+            self.order_if_free(parts, a)?;
         }
         Ok(())
     }
 
-    /// The boundaries of some generators less.
-    pub fn remove_all<const P: u16>(
-        &mut self,
-        boundaries: &[Chain<P>],
-        generators: &Generators,
-        at: u32,
-    ) -> Result<(), AllocError> {
-        for k in 0..generators.len() {
-            let place = generators.at(k) as usize;
-            if place < boundaries.len() {
-                if boundaries[place].coefficient(at) != 0 {
-                    self.remove(&boundaries[place])?;
-                }
-            }
+    fn order_if_free<const P: u16>(&mut self, parts: &Parts<P>, a: u32) -> Result<(), AllocError> {
+        let Some(mark) = self.marks.get(a as usize).copied() else {
+            return Ok(());
+        };
+        let b = mark.names;
+        if mark.count == 1 && b < parts.complex.len() && !self.mark_ordered(b) {
+            self.order.push(Turn { b, a })?;
+            self.uncount(b, parts.complex.boundary(b))?;
         }
         Ok(())
     }
 
-    /// The boundaries of the generators of a chain.
-    pub fn add_all<const P: u16>(
+    fn order_free_first<const P: u16>(
         &mut self,
-        boundaries: &[Chain<P>],
-        generators: &Chain<P>,
+        alloc: Global,
+        parts: &Parts<P>,
+        generators: &[u32],
     ) -> Result<(), AllocError> {
-        for (generator, _) in generators.terms() {
-            let place = *generator as usize;
-            if place < boundaries.len() {
-                self.add(&boundaries[place])?;
+        let mut aside = Vec::new(alloc);
+        for b in generators {
+            self.order_free(parts)?;
+            if *b < parts.complex.len() && !self.mark_ordered(*b) {
+                aside.push(*b)?;
+                self.uncount(*b, parts.complex.boundary(*b))?;
             }
         }
+        self.order_free(parts)?;
+        self.order_as_numbered(&aside)?;
         Ok(())
+    }
+
+    /// The place in a row of the generator that a turn names, or else of the one that stands in the lightest rows.
+    pub fn choose<const P: u16>(&self, row: &Chain<P>, a: u32) -> usize {
+        let mut best = 0;
+        let mut least = u32::MAX;
+        for (place, (generator, _)) in row.terms().iter().enumerate() {
+            if *generator == a {
+                return place;
+            }
+            if self.weight_of(*generator) <= least {
+                best = place;
+                least = self.weight_of(*generator);
+            }
+        }
+        best
+    }
+
+    /// A step by this row and a generator in it is made: the others become heavier.
+    pub fn weigh<const P: u16>(&mut self, row: &Chain<P>, a: u32) {
+        let weight = self.weight_of(a).saturating_add(1);
+        for (generator, _) in row.terms() {
+            if let Some(mark) = self.marks.get_mut(*generator as usize) {
+                mark.weight = mark.weight.saturating_add(weight);
+            }
+        }
     }
 }

@@ -8,7 +8,7 @@ use Rattle.loading.specs.Jobs.{Job, HasOneJudgement}
 use Rattle.loading.specs.Refused.{refused_job}
 use Rattle.loading.proofs.Refused.{refused_once}
 use Rattle.all_tools.specs.Jobs.{judged_by, job_of}
-use Rattle.all_tools.proofs.Refusals.{words_refused_so}
+use Rattle.all_tools.specs.Refusals.{words_refused_so}
 
 -- the job of a command, or to be refused
 abbrev pub asked_job : Result Request Fault → Job

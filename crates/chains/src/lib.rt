@@ -12,6 +12,3 @@ pub use laws::{
     bases_have_one_length, boundaries_are_operators, fillings_are_of_next_degree,
     null_chains_are_cycles,
 };
-
-#[cfg(test)]
-mod tests;

@@ -11,7 +11,7 @@ use Rattle.chains.specs.ChainComplex.{ChainComplex}
 use Rattle.chains.proofs.TermLists.{coefficient-below, coefficient-lt, raised}
 use Rattle.algebraic_reduction.specs.Reduction.{single, Step, IsUnpaired}
 use Rattle.algebraic_reduction.specs.Laws.{IsReduction, include_of, project_of}
-use Rattle.algebraic_reduction.proofs.Columns.{reduced, same_zero}
+use Rattle.algebraic_reduction.proofs.Residues.{reduced, same_zero}
 use Rattle.homology_basis.specs.Bases.{BeginsWithOne}
 use Rattle.homology_basis.specs.Classes.{IsClass}
 use Rattle.algebraic_reduction.proofs.LinearMaps.{exact, through, single-self, single-other, total_picked_other}

@@ -12,9 +12,13 @@ mod chain_fault_tests;
 #[cfg(test)]
 mod chain_file_tests;
 #[cfg(test)]
+mod chain_tests;
+#[cfg(test)]
 mod fault_tests;
 #[cfg(test)]
 mod field_tests;
+#[cfg(test)]
+mod log_tests;
 #[cfg(test)]
 mod map_file_tests;
 #[cfg(test)]

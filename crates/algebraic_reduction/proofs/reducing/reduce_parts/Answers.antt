@@ -1,15 +1,16 @@
 use Rattle.std.proofs.Common.{arith, ap, sym, ◌∙◌, length}
+use Rattle.field_mod.proofs.Table.{two_le}
 use Rattle.chains.specs.ChainComplex.{ChainComplex}
 use Rattle.algebraic_reduction.proofs.Going.{goes_trans, empty_more, empty_all}
 use Rattle.algebraic_reduction.proofs.reducing.reduce_parts.Goals as goal
 
 pub loop-b-init : goal.loop-b-init
 loop-b-init g c =
-    let e = c.in_ok-take_all_free.ensures in
+    let e = c.in_ok-reduce_by_plan.ensures in
     record {
       state = e.state;
       goes = e.goes;
-      count = c.len-count.ensures.count ∙ ap (λ (K : ChainComplex). length K.boundaries) (sym e.goes.complex) ∙ sym e.state.boundaries_count;
+      count = c.len-count.ensures.count;
       empty = λ h l. absurd (omega arith);
     }
 
@@ -22,10 +23,10 @@ loop-b-preserved g c =
     let i = c.loop-b.invariant in
     record {
       state = e.state;
-      goes = goes_trans g.row.P _ _ _ _ _ _ _ _ _ i.goes e.goes;
-      count = i.count ∙ i.state.boundaries_count ∙ ap (λ (K : ChainComplex). length K.boundaries) (sym e.goes.complex) ∙ sym e.state.boundaries_count;
-      empty = empty_more g.row.P c.loop-b.b c.loop-b.parts.boundaries.items c.finish.new.parts.boundaries.items i.empty e.goes.zeros e.empty;
+      goes = goes_trans _ _ _ _ _ _ i.goes e.goes;
+      count = i.count ∙ ap (λ (K : ChainComplex). length K.boundaries) (sym e.goes.complex);
+      empty = empty_more g.row.P c.loop-b.b _ _ _ _ i.empty e.goes e.empty;
     }
 
 pub returns-clause-empty : goal.returns-clause-empty
-returns-clause-empty g c = let i = c.loop-b.invariant in empty_all g.row.P c.len-count.result c.loop-b.parts.boundaries.items (sym i.count) (λ h l. i.empty h (omega (arith, l, c.loop-b-test.false)))
+returns-clause-empty g c = let i = c.loop-b.invariant in empty_all g.row.P c.len-count.result _ _ _ (two_le g.row.P c.args.field.listed) i.state i.count (λ h l. i.empty h (omega (arith, l, c.loop-b-test.false)))

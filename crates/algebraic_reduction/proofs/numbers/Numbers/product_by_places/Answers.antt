@@ -5,7 +5,7 @@ use Rattle.std.proofs.lemmas.Map.Iter.{btree_map_turn}
 use Rattle.chains.specs.Terms.{product}
 use Rattle.field_mod.proofs.Modular.{same_by}
 use Rattle.field_mod.proofs.Table.{two_le}
-use Rattle.algebraic_reduction.proofs.Columns.{number_below}
+use Rattle.algebraic_reduction.proofs.Residues.{number_below}
 use Rattle.algebraic_reduction.proofs.NumbersKept.{left_more, left_none}
 use Rattle.algebraic_reduction.proofs.numbers.Numbers.product_by_places.Goals as goal
 

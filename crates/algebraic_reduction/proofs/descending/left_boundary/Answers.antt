@@ -1,0 +1,18 @@
+use Rattle.std.proofs.Common.{ap, ℕ, List, length, subst}
+use Rattle.field_mod.specs.Modular.{Same}
+use Rattle.field_mod.proofs.Modular.{same_trans}
+use Rattle.field_mod.proofs.Table.{two_le}
+use Rattle.chains.specs.Terms.{coefficient}
+use Rattle.chains.specs.ChainComplex.{incidence}
+use Rattle.algebraic_reduction.specs.Kept.{steps_of}
+use Rattle.algebraic_reduction.specs.Laws.{project_of}
+use Rattle.algebraic_reduction.proofs.Bridge.{grade, is_boundary}
+use Rattle.algebraic_reduction.proofs.Returning.{row_projected}
+use Rattle.algebraic_reduction.proofs.descending.left_boundary.Goals as goal
+
+pub returns : goal.returns
+returns g c h =
+    let p = c.args.parts.now in
+    same_trans
+    (subst (λ (ts : List (ℕ × ℕ)). Same g.row.P (coefficient c.in_ok-left.left h) (project_of g.row.P p.complex (steps_of p.steps.items) (coefficient ts) h)) c.boundary.ensures.value (c.in_ok-left.ensures h))
+    (row_projected g.row.P (length p.complex.boundaries) (grade p.complex.degrees) (two_le g.row.P c.args.field.listed) (incidence p.complex.boundaries) (steps_of p.steps.items) (is_boundary g.row.P p.complex c.requires.state.complex) c.requires.state.steps c.args.generator c.requires.inside c.requires.alive h)
