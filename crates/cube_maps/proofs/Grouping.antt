@@ -1,5 +1,5 @@
 -- Pairs in order, grouped by their cubes.
-use Rattle.std.proofs.Common.{◌≡◌, ◌⊎◌, inl, inr, ⊎_elim, List, [], ◌∷◌, length, map, Bool, true, false, ◌||◌, ◌&&◌, if◌then◌else◌, refl, sym, ap, ◌∙◌, subst}
+use Rattle.std.proofs.Common.{◌≡◌, ◌⊎◌, inl, inr, ⊎_elim, List, [], ◌∷◌, Bool, true, false, ◌||◌, refl, sym, ap, ◌∙◌}
 use Rattle.std.specs.List.{list_all, AllByRecursion}
 use Rattle.std.specs.List.Sorted.{IsStrictlySortedBy}
 use Rattle.std.specs.Ordering.{is_eq, ordering_then}
@@ -89,6 +89,7 @@ grouped_step q qs p ps false e below later here all more =
     false_from : (b : Bool) → (b ≡ true → ⊥) → b ≡ false
     false_from true f = absurd (f refl)
     false_from false f = refl
+
     swapped_same : (x y : List Factor) → same_cell y x ≡ false → same_cell x y ≡ false
     swapped_same x y e = false_from (same_cell x y) (λ t. true≢false (sym ((same_cell-Decides y x).1 (sym ((same_cell-Decides x y).0 t))) ∙ e))
 

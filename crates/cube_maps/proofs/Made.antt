@@ -1,6 +1,6 @@
 -- A map that is made of sorted cubes and pairs: what it names, its values, and that it is a map.
-use Rattle.std.proofs.Common.{◌≡◌, ℕ, suc, ◌+◌, ◌≤◌, List, [], ◌∷◌, ◌++◌, length, map, Bool, true, false, ◌||◌, ◌&&◌, if◌then◌else◌, refl, sym, ap, ◌∙◌, subst, arith, IsTrue}
-use Rattle.std.specs.List.{list_all, list_any, AllByRecursion, Contains, flat_map}
+use Rattle.std.proofs.Common.{◌≡◌, ℕ, suc, ◌≤◌, List, [], ◌∷◌, length, Bool, true, false, ◌||◌, ◌&&◌, if◌then◌else◌, refl, sym, ap, ◌∙◌, subst, arith}
+use Rattle.std.specs.List.{list_all, AllByRecursion}
 use Rattle.std.specs.List.Sorted.{IsStrictlySortedBy}
 use Rattle.std.specs.Ordering.{is_eq, ordering_then}
 use Rattle.std.specs.declared.cmp.Ordering.{Ordering}
@@ -8,10 +8,10 @@ use Rattle.std.specs.declared.cmp.Ordering.TheVariants.{Less, Equal, Greater}
 use Rattle.elem_cubes.specs.declared.range.TheConstants.{MAX_EMBEDDING}
 use Rattle.elem_cubes.specs.Cells.{Factor, same_cell}
 use Rattle.elem_cubes.specs.Order.{cell_cmp}
-use Rattle.elem_cubes.specs.OrderLemmas.{cell_cmp_total, cell_cmp_ties, cell_cmp_itself, same_cell-Decides, tied_cells}
+use Rattle.elem_cubes.specs.OrderLemmas.{cell_cmp_ties, cell_cmp_itself, same_cell-Decides}
 use Rattle.cube_sets.specs.Sorted.{has}
-use Rattle.cube_sets.proofs.Sorting.{equal_from, and_true}
-use Rattle.cube_maps.specs.CubeMaps.{Naming, Mapping, names, value_of, cubes_of, pairs_of, is_full_member, is_naming, IsCubeMap}
+use Rattle.cube_sets.proofs.Sorting.{and_true}
+use Rattle.cube_maps.specs.CubeMaps.{Naming, names, value_of, cubes_of, pairs_of, is_full_member, is_naming, IsCubeMap}
 use Rattle.cube_maps.specs.Parts.{is_pair, values_in, namings_in, pair_cmp}
 use Rattle.cube_maps.specs.declared.pair.Pair.{Pair}
 use Rattle.cube_maps.specs.declared.parts.TheConstants.{MAP_PAIRS}

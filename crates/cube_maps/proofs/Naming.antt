@@ -1,8 +1,8 @@
 -- The search for a cube among those that a map names.
-use Rattle.std.proofs.Common.{◌≡◌, ℕ, zero, suc, ◌+◌, ◌<◌, ◌≤◌, List, [], ◌∷◌, length, map, get_or, Bool, true, false, ◌||◌, if◌then◌else◌, Err, refl, sym, ap, ◌∙◌, subst, arith}
-use Rattle.std.specs.List.Sorted.{IsStrictlySortedBy, IsBinarySearchResult, IsNonDecreasingBy}
+use Rattle.std.proofs.Common.{◌≡◌, ℕ, zero, suc, ◌<◌, ◌≤◌, List, [], ◌∷◌, length, get_or, true, false, ◌||◌, Err, refl, sym, ap, ◌∙◌, subst, arith}
+use Rattle.std.specs.List.Sorted.{IsStrictlySortedBy, IsBinarySearchResult}
 use Rattle.std.specs.Ordering.{is_eq, ordering_index}
-use Rattle.std.specs.declared.cmp.Ordering.TheVariants.{Less, Equal}
+use Rattle.std.specs.declared.cmp.Ordering.TheVariants.{Less}
 use Rattle.std.proofs.lemmas.List.{get_or-map, length-map}
 use Rattle.elem_cubes.specs.Cells.{Factor, same_cell}
 use Rattle.elem_cubes.specs.Order.{cell_cmp}
@@ -34,7 +34,8 @@ not_found es i q s le is =
     names_has es q ∙ sym (search_has cell_cmp cell_cmp_total (cubes_of es) q (Err i) s (subst (λ (m : ℕ). i ≤ m) (sym n) le) (λ rises.
     let at_map : (k : ℕ) (d : Naming) → k < length es → get_or (cubes_of es) k d.cube ≡ (get_or es k d).cube = λ k d lt. get_or-map (λ (e : Naming). e.cube) es k d d.cube lt in
     let parts = is (λ k j d le lt. subst (λ (m : ℕ). m ≤ ordering_index (cell_cmp (get_or es j d).cube q)) (ap (λ y. ordering_index (cell_cmp y q)) (at_map k d (omega arith)))
-        (subst (λ (m : ℕ). ordering_index (cell_cmp (get_or (cubes_of es) k d.cube) q) ≤ m) (ap (λ y. ordering_index (cell_cmp y q)) (at_map j d lt))
-        (rises k j d.cube le (subst (λ (m : ℕ). j < m) (sym n) lt)))) in
-    (λ k d low up. ap (λ y. cell_cmp y q) (at_map k (record { cube = d; value = [] }) (omega arith)) ∙ parts.0 k (record { cube = d; value = [] }) low up,
-    λ k d low up. let up' : k < length es = omega arith in ap (λ y. cell_cmp y q) (at_map k (record { cube = d; value = [] }) up') ∙ parts.1 k (record { cube = d; value = [] }) low up')))
+    (subst (λ (m : ℕ). ordering_index (cell_cmp (get_or (cubes_of es) k d.cube) q) ≤ m) (ap (λ y. ordering_index (cell_cmp y q)) (at_map j d lt))
+    (rises k j d.cube le (subst (λ (m : ℕ). j < m) (sym n) lt)))) in (
+      λ k d low up. ap (λ y. cell_cmp y q) (at_map k (record { cube = d; value = [] }) (omega arith)) ∙ parts.0 k (record { cube = d; value = [] }) low up,
+      λ k d low up. let up' : k < length es = omega arith in ap (λ y. cell_cmp y q) (at_map k (record { cube = d; value = [] }) up') ∙ parts.1 k (record { cube = d; value = [] }) low up',
+    )))

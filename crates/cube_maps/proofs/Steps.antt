@@ -1,6 +1,6 @@
 -- The steps of the loops that make a map of its parts, or copy one.
-use Rattle.std.proofs.Common.{◌≡◌, ℕ, suc, ◌+◌, ◌<◌, ◌≤◌, List, [], ◌∷◌, ◌++◌, length, map, take, drop, get_or, Bool, true, false, ◌||◌, if◌then◌else◌, refl, sym, ap, ◌∙◌, subst, arith, length-append, append_assoc, take_all}
-use Rattle.std.specs.List.{list_all, flat_map}
+use Rattle.std.proofs.Common.{◌≡◌, ℕ, ◌+◌, ◌<◌, ◌≤◌, List, [], ◌∷◌, ◌++◌, length, take, drop, get_or, Bool, true, false, ◌||◌, refl, sym, ap, ◌∙◌, subst, arith, length-append, append_assoc}
+use Rattle.std.specs.List.{list_all}
 use Rattle.std.specs.List.Sorted.{IsStrictlySortedBy}
 use Rattle.std.proofs.lemmas.List.{drop_more, take_more, map-append, drop_all}
 use Rattle.elem_cubes.specs.Cells.{Factor, same_cell}
@@ -71,7 +71,7 @@ groups qs ps es k at next q value g lt here is others count within =
     let cut : drop k qs ≡ q ∷ drop (k + 1) qs = drop_more qs k q lt ∙ ap (λ x. x ∷ drop (k + 1) qs) here in
     let sorted : IsStrictlySortedBy cell_cmp (q ∷ drop (k + 1) qs) = subst (IsStrictlySortedBy cell_cmp) cut (sorted-drop cell_cmp k qs g.sorted) in
     let one = grouped q (drop (k + 1) qs) (drop at ps) (below_rest q (drop (k + 1) qs) sorted) (sorted-drop pair_cmp at ps g.pairs)
-        (subst (λ (l : List (List Factor)). list_all (λ p. has cell_cmp l p.cube) (drop at ps) ≡ true) cut g.left) in
+    (subst (λ (l : List (List Factor)). list_all (λ p. has cell_cmp l p.cube) (drop at ps) ≡ true) cut g.left) in
     let mine : has cell_cmp (drop k qs) q ≡ true = ap (λ l. has cell_cmp l q) cut ∙ rw (ap is_eq (cell_cmp_itself q)) refl in
     let whole : value ≡ values_in ps q = is ∙ one.first ∙ sym (g.rest q mine) in
     let n = g.count in
@@ -90,6 +90,7 @@ groups qs ps es k at next q value g lt here is others count within =
     or_right : (a b : Bool) → b ≡ true → (a || b) ≡ true
     or_right true b h = refl
     or_right false b h = h
+
     later : (c : List Factor) → has cell_cmp (drop (k + 1) qs) c ≡ true → has cell_cmp (q ∷ drop (k + 1) qs) c ≡ true
     later c h = or_right (is_eq (cell_cmp q c)) (has cell_cmp (drop (k + 1) qs) c) h
 

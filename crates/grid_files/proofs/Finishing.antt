@@ -20,13 +20,13 @@ one_passes p x c xs true e k px more = ap p (sym (tied_cells x c (equal_from cel
 one_passes p x c xs false e k px more = more k
 
 -- a member of a list with a test passes it
-member_passes : (p : List Factor → Bool) (cells : List (List Factor)) (c : List Factor) → list_all p cells ≡ true → has cell_cmp cells c ≡ true → p c ≡ true
+pub member_passes : (p : List Factor → Bool) (cells : List (List Factor)) (c : List Factor) → list_all p cells ≡ true → has cell_cmp cells c ≡ true → p c ≡ true
 member_passes p [] c h k = cc
 member_passes p (x ∷ xs) c h k =
     let parts = and_true (p x) (list_all p xs) h in
     one_passes p x c xs (is_eq (cell_cmp x c)) refl k parts.0 (member_passes p xs c parts.1)
 
-all_pass : (p : List Factor → Bool) (keys : List (List Factor)) → ((c : List Factor) → has cell_cmp keys c ≡ true → p c ≡ true) → list_all p keys ≡ true
+pub all_pass : (p : List Factor → Bool) (keys : List (List Factor)) → ((c : List Factor) → has cell_cmp keys c ≡ true → p c ≡ true) → list_all p keys ≡ true
 all_pass p [] h = refl
 all_pass p (x ∷ xs) h =
     rw (h x (has_itself x xs), all_pass p xs (λ c k. h c (or_right (is_eq (cell_cmp x c)) (has cell_cmp xs c) k))) refl

@@ -59,7 +59,7 @@ or_has : (a h : Bool) → (a ≡ true → h ≡ true) → h ≡ (a || h)
 or_has true h f = f refl
 or_has false h f = refl
 
-joined_members : (q : List Factor) (keys cells : List (List Factor)) (there : Bool) (c : List Factor) → list_any (same_cell q) keys ≡ there
+pub joined_members : (q : List Factor) (keys cells : List (List Factor)) (there : Bool) (c : List Factor) → list_any (same_cell q) keys ≡ there
     → ((c : List Factor) → has cell_cmp keys c ≡ has cell_cmp cells c)
     → has cell_cmp (if there then keys else keys ++ q ∷ []) c ≡ has cell_cmp (inserted cell_cmp q cells) c
 joined_members q keys cells true c e h =
@@ -69,7 +69,7 @@ joined_members q keys cells false c e h =
     list_any-append (λ x. is_eq (cell_cmp x c)) keys (q ∷ []) ∙ or_comm (has cell_cmp keys c) (is_eq (cell_cmp q c))
     ∙ ap (λ b. is_eq (cell_cmp q c) || b) (h c) ∙ sym (has-inserted cell_cmp cell_cmp_total q cells c)
 
-length_there : (q : List Factor) (cells : List (List Factor)) → IsStrictlySortedBy cell_cmp cells → has cell_cmp cells q ≡ true → length (inserted cell_cmp q cells) ≡ length cells
+pub length_there : (q : List Factor) (cells : List (List Factor)) → IsStrictlySortedBy cell_cmp cells → has cell_cmp cells q ≡ true → length (inserted cell_cmp q cells) ≡ length cells
 unfolding IsStrictlySortedBy
 length_there q [] s h = cc
 length_there q (x ∷ xs) s h = by_cases {A = List (List Factor)} (λ (ys : List (List Factor)). length ys ≡ suc (length xs)) (cell_cmp q x) (q ∷ x ∷ xs) (x ∷ xs) (x ∷ inserted cell_cmp q xs)
@@ -81,7 +81,7 @@ length_there q (x ∷ xs) s h = by_cases {A = List (List Factor)} (λ (ys : List
     let there : has cell_cmp xs q ≡ true = sym (ap (λ b. b || has cell_cmp xs q) up) ∙ h in
     ap suc (length_there q xs s.1 there))
 
-length_new : (q : List Factor) (cells : List (List Factor)) → has cell_cmp cells q ≡ false → length (inserted cell_cmp q cells) ≡ suc (length cells)
+pub length_new : (q : List Factor) (cells : List (List Factor)) → has cell_cmp cells q ≡ false → length (inserted cell_cmp q cells) ≡ suc (length cells)
 length_new q [] h = refl
 length_new q (x ∷ xs) h = by_cases {A = List (List Factor)} (λ (ys : List (List Factor)). length ys ≡ suc (suc (length xs))) (cell_cmp q x) (q ∷ x ∷ xs) (x ∷ xs) (x ∷ inserted cell_cmp q xs)
     (λ e. refl)
@@ -92,7 +92,7 @@ length_new q (x ∷ xs) h = by_cases {A = List (List Factor)} (λ (ys : List (Li
     no_more true b h = cc
     no_more false b h = h
 
-joined_count : (q : List Factor) (keys cells : List (List Factor)) (there : Bool) → list_any (same_cell q) keys ≡ there → ((c : List Factor) → has cell_cmp keys c ≡ has cell_cmp cells c)
+pub joined_count : (q : List Factor) (keys cells : List (List Factor)) (there : Bool) → list_any (same_cell q) keys ≡ there → ((c : List Factor) → has cell_cmp keys c ≡ has cell_cmp cells c)
     → length keys ≡ length cells → IsStrictlySortedBy cell_cmp cells → length (if there then keys else keys ++ q ∷ []) ≡ length (inserted cell_cmp q cells)
 joined_count q keys cells true e h n s = n ∙ sym (length_there q cells s (sym (h q) ∙ sym (any_has q keys) ∙ e))
 joined_count q keys cells false e h n s =

@@ -20,6 +20,8 @@ mod field_tests;
 #[cfg(test)]
 mod log_tests;
 #[cfg(test)]
+mod map_file_tests;
+#[cfg(test)]
 mod matrix_tests;
 #[cfg(test)]
 mod outside_tests;

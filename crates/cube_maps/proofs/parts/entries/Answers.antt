@@ -1,5 +1,5 @@
-use Rattle.std.proofs.Common.{◌≡◌, ap, sym, ◌∙◌, subst, ◌+◌, length, arith}
-use Rattle.cube_maps.proofs.Steps.{IsGrouping, groups}
+use Rattle.std.proofs.Common.{◌≡◌, sym, ◌+◌, length, arith}
+use Rattle.cube_maps.proofs.Steps.{groups}
 use Rattle.cube_maps.proofs.parts.entries.Goals as goal
 
 pub loop-cube-preserved : goal.loop-cube-preserved

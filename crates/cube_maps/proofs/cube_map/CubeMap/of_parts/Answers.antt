@@ -1,4 +1,4 @@
-use Rattle.std.proofs.Common.{◌≡◌, ◌≤◌, length, ap, sym, ◌∙◌, arith, subst}
+use Rattle.std.proofs.Common.{◌≡◌, ◌≤◌, length, ap, ◌∙◌, arith}
 use Rattle.cube_maps.specs.CubeMaps.{pairs_of}
 use Rattle.cube_maps.specs.Parts.{namings_in}
 use Rattle.cube_maps.proofs.Made.{AreSorted, made_map, made_names, made_pairs}

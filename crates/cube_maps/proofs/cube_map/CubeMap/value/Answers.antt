@@ -1,4 +1,4 @@
-use Rattle.std.proofs.Common.{rules, subst, sym, ap, ◌∙◌, ◌≡◌, ◌<◌, ◌≤◌, get_or, length}
+use Rattle.std.proofs.Common.{rules, sym, ap, ◌∙◌, ◌<◌, ◌≤◌, get_or, length}
 use Rattle.std.proofs.lemmas.List.Sorted.{answers_always}
 use Rattle.elem_cubes.specs.OrderLemmas.{tied_cells}
 use Rattle.cube_maps.proofs.Naming.{found, not_found}

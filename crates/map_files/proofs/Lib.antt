@@ -1,0 +1,11 @@
+pub mod Reading
+pub mod Deciding
+pub mod Outcomes
+pub mod Elements
+pub mod Keeping
+pub mod Openings
+pub mod Gathering
+pub mod Finishing
+pub mod LongCorners
+pub mod Readings
+pub mod MapFiles

@@ -1,0 +1,10 @@
+pub mod Elements
+pub mod Items
+pub mod MapFile
+pub mod Laws
+pub mod Reading
+pub mod Openings
+pub mod Kept
+pub mod Readers
+pub mod Readings
+pub mod Faults
