@@ -1,6 +1,6 @@
 //! With ample memory each case is answered: every modulus, every dimension, the least and the
 //! greatest degree.
-use crate::rows::{DONE, Row, all_answer, answers};
+use crate::rows::{DONE, Row, all_answer, prints};
 use field_mod::MODULI;
 use std::alloc::Global;
 use std::process::Abort;
@@ -28,16 +28,7 @@ fn modulus_is_answered<R: Threads + Abort>(rt: &R, alloc: Global, p: u16) -> Res
     let number = format!(in alloc; "{p}")?;
     let words = ["homcubes", "ring", "--mod", number.as_str()];
     let out = format!(in alloc; "H_0 = Z_{p}\nH_1 = Z_{p}\nH_2 = 0\n")?;
-    answers(
-        rt,
-        alloc,
-        &FILES,
-        &Row {
-            words: &words,
-            out: &out,
-            ..DONE
-        },
-    )?;
+    prints(rt, alloc, &FILES, &words, &out)?;
     let words = [
         "homcubes",
         "middle",
@@ -47,28 +38,10 @@ fn modulus_is_answered<R: Threads + Abort>(rt: &R, alloc: Global, p: u16) -> Res
         number.as_str(),
     ];
     let out = format!(in alloc; "H_0 = 0\nH_1 = 0\nH_2 = Z_{p}\nz_2_1 = 1 * [(1 1)(2 2)]\n")?;
-    answers(
-        rt,
-        alloc,
-        &FILES,
-        &Row {
-            words: &words,
-            out: &out,
-            ..DONE
-        },
-    )?;
+    prints(rt, alloc, &FILES, &words, &out)?;
     let words = ["homchain", "circle", "--mod", number.as_str()];
     let out = format!(in alloc; "H_0 = Z_{p}\nH_1 = Z_{p}\n")?;
-    answers(
-        rt,
-        alloc,
-        &FILES,
-        &Row {
-            words: &words,
-            out: &out,
-            ..DONE
-        },
-    )
+    prints(rt, alloc, &FILES, &words, &out)
 }
 
 // A cube of each dimension, and its boundary.
@@ -95,7 +68,7 @@ const CUBES: [(&str, &str); 9] = [
     ("empty", ""),
 ];
 
-const HOMOLOGY: [Row<'static>; 12] = [
+const HOMOLOGY: [Row; 12] = [
     Row {
         words: &["homcubes", "1"],
         out: "H_0 = Z_2\nH_1 = 0\n",
@@ -178,73 +151,28 @@ fn each_dimension_has_its_sets(rt: HostRuntime) -> Result<(), Fail> {
 fn sets_are_answered<R: Threads + Abort>(
     rt: &R,
     alloc: Global,
-    name: &str,
+    name: &'static str,
     axes: u8,
 ) -> Result<(), Fail> {
     let head = format!(in alloc; "dimension {axes}\n")?;
     let cube = lines(alloc, &head, axes, &[("0", "1", true)])?;
-    answers(
-        rt,
-        alloc,
-        &CUBES,
-        &Row {
-            words: &["cubunion", name, "empty"],
-            out: &cube,
-            ..DONE
-        },
-    )?;
-    answers(
-        rt,
-        alloc,
-        &CUBES,
-        &Row {
-            words: &["cubinter", name, name],
-            out: &cube,
-            ..DONE
-        },
-    )?;
-    answers(
-        rt,
-        alloc,
-        &CUBES,
-        &Row {
-            words: &["cubinter", "empty", name],
-            out: &head,
-            ..DONE
-        },
-    )?;
+    prints(rt, alloc, &CUBES, &["cubunion", name, "empty"], &cube)?;
+    prints(rt, alloc, &CUBES, &["cubinter", name, name], &cube)?;
+    prints(rt, alloc, &CUBES, &["cubinter", "empty", name], &head)?;
     let near = lines(
         alloc,
         &head,
         axes,
         &[("-1", "0", true), ("0", "1", true), ("1", "2", true)],
     )?;
-    answers(
-        rt,
-        alloc,
-        &CUBES,
-        &Row {
-            words: &["cubnbhd", name],
-            out: &near,
-            ..DONE
-        },
-    )?;
+    prints(rt, alloc, &CUBES, &["cubnbhd", name], &near)?;
     let cells = lines(
         alloc,
         &head,
         axes,
         &[("0", "0", false), ("0", "1", true), ("1", "1", false)],
     )?;
-    answers(
-        rt,
-        alloc,
-        &CUBES,
-        &Row {
-            words: &["cubcells", name],
-            out: &cells,
-            ..DONE
-        },
-    )
+    prints(rt, alloc, &CUBES, &["cubcells", name], &cells)
 }
 
 // The corners of a cell, as far as its axes were chosen, and whether it is full along them.
@@ -312,16 +240,12 @@ fn degrees_are_answered<R: Threads + Abort>(rt: &R, alloc: Global, top: u8) -> R
         cycles.push_str(&format!(in alloc; "z_{degree}_1 = 1 * #1\n")?)?;
     }
     let files = [("degrees", text.as_str())];
-    let row = Row {
-        words: &["homchain", "degrees"],
-        out: &dimensions,
-        ..DONE
-    };
-    answers(rt, alloc, &files, &row)?;
-    let row = Row {
-        words: &["homchain", "degrees", "--cycles"],
-        out: &cycles,
-        ..DONE
-    };
-    answers(rt, alloc, &files, &row)
+    prints(rt, alloc, &files, &["homchain", "degrees"], &dimensions)?;
+    prints(
+        rt,
+        alloc,
+        &files,
+        &["homchain", "degrees", "--cycles"],
+        &cycles,
+    )
 }

@@ -52,26 +52,26 @@ const FILES: [(&str, &str); 14] = [
     ("most", "chain complex max dimension 0 dimension 0: 1048576"),
 ];
 
-const DONE: Row<'static> = Row {
+const DONE: Row = Row {
     words: &["homchain", "c"],
     out: "H_0 = Z_2\nH_1 = Z_2\nH_2 = Z_2\n",
     ..crate::rows::DONE
 };
 
-const BAD_TEXT: Row<'static> = Row {
+const BAD_TEXT: Row = Row {
     status: Status::Text,
     out: "",
     ..DONE
 };
 
-const NO_FORM: Row<'static> = Row {
+const NO_FORM: Row = Row {
     status: Status::Words,
     out: "",
     err: "error: words: not a form of homchain\n",
     ..DONE
 };
 
-const COMPLEXES: [Row<'static>; 12] = [
+const COMPLEXES: [Row; 12] = [
     DONE,
     Row {
         words: &["homchain", "--mod", "3", "c"],
@@ -130,7 +130,7 @@ const COMPLEXES: [Row<'static>; 12] = [
     },
 ];
 
-const REFUSED: [Row<'static>; 20] = [
+const REFUSED: [Row; 20] = [
     Row {
         words: &["homchain", "n"],
         err: "error: n: dimension 2: # 1: boundary of boundary has 1 * 1\n",

@@ -40,43 +40,43 @@ const FILES: [(&str, &str); 24] = [
     ("two", "(5) (0)"),
 ];
 
-const DONE: Row<'static> = Row {
+const DONE: Row = Row {
     words: &["homcubes", "q"],
     out: "H_0 = Z_2\nH_1 = 0\nH_2 = 0\n",
     ..crate::rows::DONE
 };
 
-const NO_FORM: Row<'static> = Row {
+const NO_FORM: Row = Row {
     status: Status::Words,
     out: "",
     err: "error: words: not a form of homcubes\n",
     ..DONE
 };
 
-const NO_TOOL: Row<'static> = Row {
+const NO_TOOL: Row = Row {
     err: "error: words: no tool of that name\n",
     ..NO_FORM
 };
 
-const BAD_TEXT: Row<'static> = Row {
+const BAD_TEXT: Row = Row {
     status: Status::Text,
     out: "",
     ..DONE
 };
 
-const UNREAD: Row<'static> = Row {
+const UNREAD: Row = Row {
     status: Status::Read,
     out: "",
     err: "error: cannot read q\n",
     ..DONE
 };
 
-const NO_HOMOLOGY: Row<'static> = Row {
+const NO_HOMOLOGY: Row = Row {
     out: "H_0 = 0\nH_1 = 0\n",
     ..DONE
 };
 
-const SETS: [Row<'static>; 12] = [
+const SETS: [Row; 12] = [
     DONE,
     Row {
         words: &["homcubes", "e"],
@@ -131,7 +131,7 @@ const SETS: [Row<'static>; 12] = [
     },
 ];
 
-const PAIRS_AND_MODULI: [Row<'static>; 9] = [
+const PAIRS_AND_MODULI: [Row; 9] = [
     Row {
         words: &["homcubes", "x", "a"],
         out: "H_0 = 0\nH_1 = Z_2\n",
@@ -177,7 +177,7 @@ const PAIRS_AND_MODULI: [Row<'static>; 9] = [
     },
 ];
 
-const WITH_CYCLES: [Row<'static>; 7] = [
+const WITH_CYCLES: [Row; 7] = [
     Row {
         words: &["homcubes", "x", "a", "--cycles"],
         out: "H_0 = 0\nH_1 = Z_2\nz_1_1 = 1 * [(0)(1)]\n",
@@ -214,7 +214,7 @@ const WITH_CYCLES: [Row<'static>; 7] = [
     },
 ];
 
-const TEXTS: [Row<'static>; 10] = [
+const TEXTS: [Row; 10] = [
     Row {
         words: &["homcubes", "open"],
         err: "error: open: byte 6: not closed\n",
@@ -267,7 +267,7 @@ const TEXTS: [Row<'static>; 10] = [
     },
 ];
 
-const FAULTS: [Row<'static>; 7] = [
+const FAULTS: [Row; 7] = [
     Row {
         words: &["homcubes", "absent"],
         err: "error: cannot read absent\n",

@@ -20,13 +20,13 @@ const FILES: [(&str, &str); 5] = [
     ),
 ];
 
-const RING: Row<'static> = Row {
+const RING: Row = Row {
     words: &["homcubes", "ring"],
     out: "H_0 = Z_2\nH_1 = Z_2\nH_2 = 0\n",
     ..crate::rows::DONE
 };
 
-const REPORTS: [Row<'static>; 5] = [
+const REPORTS: [Row; 5] = [
     RING,
     Row {
         words: &["homcubes", "middle", "ring", "--mod", "3", "--cycles"],
@@ -50,7 +50,7 @@ const REPORTS: [Row<'static>; 5] = [
     },
 ];
 
-const REFUSALS: [Row<'static>; 4] = [
+const REFUSALS: [Row; 4] = [
     Row {
         words: &["homcubes", "open"],
         status: Status::Text,
@@ -86,7 +86,7 @@ const REFUSALS: [Row<'static>; 4] = [
 fn answers_or_wants_memory<R: Threads + Abort>(
     rt: &R,
     alloc: Global,
-    row: &Row<'_>,
+    row: &Row,
 ) -> Result<(), Fail> {
     let words = words_of(alloc, row.words)?;
     let mut files = MemFiles::of(alloc, held(alloc, &FILES)?, Vec::new(alloc));

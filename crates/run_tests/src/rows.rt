@@ -9,18 +9,18 @@ use std::thread::Threads;
 
 /// Words, which reads and writes fail, how many bytes a write takes, and what a run has to answer.
 #[derive(Clone, Copy, Drop)]
-pub struct Row<'a> {
-    pub words: &'a [&'a str],
-    pub failing_reads: &'a [u64],
-    pub failing_writes: &'a [u64],
+pub struct Row {
+    pub words: &'static [&'static str],
+    pub failing_reads: &'static [u64],
+    pub failing_writes: &'static [u64],
     pub most: usize,
     pub status: Status,
-    pub out: &'a str,
-    pub err: &'a str,
+    pub out: &'static str,
+    pub err: &'static str,
 }
 
 /// A run that is done and prints nothing.
-pub const DONE: Row<'static> = Row {
+pub const DONE: Row = Row {
     words: &[],
     failing_reads: &[],
     failing_writes: &[],
@@ -54,7 +54,7 @@ pub fn answers<R: Threads + Abort>(
     rt: &R,
     alloc: Global,
     named: &[(&str, &str)],
-    row: &Row<'_>,
+    row: &Row,
 ) -> Result<(), Fail> {
     let words = words_of(alloc, row.words)?;
     let failing = Vec::from_slice(alloc, row.failing_reads)?;
@@ -75,11 +75,29 @@ pub fn all_answer<R: Threads + Abort>(
     rt: &R,
     alloc: Global,
     named: &[(&str, &str)],
-    rows: &[Row<'_>],
+    rows: &[Row],
 ) -> Result<(), Fail> {
     for row in rows {
         answers(rt, alloc, named, row)?;
     }
+    Ok(())
+}
+
+/// With ample memory a run is done, and prints this.
+pub fn prints<R: Threads + Abort>(
+    rt: &R,
+    alloc: Global,
+    named: &[(&str, &str)],
+    words: &[&str],
+    text: &str,
+) -> Result<(), Fail> {
+    let words = words_of(alloc, words)?;
+    let mut files = MemFiles::of(alloc, held(alloc, named)?, Vec::new(alloc));
+    let mut out = MemSink::of(alloc, Vec::new(alloc), 1000);
+    let mut err = MemSink::of(alloc, Vec::new(alloc), 1000);
+    let status = run(rt, alloc, &words, &mut files, &mut out, &mut err, &OpenGate);
+    assert!(rt; status == Status::Done, "{:?}", status);
+    assert_eq!(rt; out.bytes(), text.as_bytes());
     Ok(())
 }
 

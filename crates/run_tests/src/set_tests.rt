@@ -15,30 +15,30 @@ const FILES: [(&str, &str); 9] = [
     ("open", "(0 0) (1"),
 ];
 
-const DONE: Row<'static> = Row {
+const DONE: Row = Row {
     words: &["cubunion", "e", "e"],
     ..crate::rows::DONE
 };
 
-const NO_FORM: Row<'static> = Row {
+const NO_FORM: Row = Row {
     words: &["cubcells"],
     status: Status::Words,
     err: "error: words: not a form of cubcells\n",
     ..DONE
 };
 
-const BAD_TEXT: Row<'static> = Row {
+const BAD_TEXT: Row = Row {
     status: Status::Text,
     ..DONE
 };
 
-const UNREAD: Row<'static> = Row {
+const UNREAD: Row = Row {
     status: Status::Read,
     err: "error: cannot read absent\n",
     ..DONE
 };
 
-const SETS: [Row<'static>; 9] = [
+const SETS: [Row; 9] = [
     DONE,
     Row {
         words: &["cubnbhd", "p"],
@@ -82,7 +82,7 @@ const SETS: [Row<'static>; 9] = [
     },
 ];
 
-const REFUSED: [Row<'static>; 15] = [
+const REFUSED: [Row; 15] = [
     Row {
         words: &["cubnbhd", "m"],
         status: Status::Limit,
