@@ -43,4 +43,4 @@ WordsBehindDashesAreOperands = (form : Row) (before after : List (List ℕ)) (so
     → AreWhole form before so_far
     → words_read form Anything (before ++ dashes ∷ after)
     ≡ (if list_any is_empty after then None
-      else Some (record { operands = so_far.operands ++ after; settings = so_far.settings }))
+    else Some (record { operands = so_far.operands ++ after; settings = so_far.settings }))

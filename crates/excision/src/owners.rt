@@ -27,11 +27,7 @@ impl Model for Owners {
 
 impl Owners {
     /// The owners of all cells: the members that have them as faces.
-    pub(crate) fn of(
-        alloc: Global,
-        cells: &Numbered,
-        x: &CubeSet,
-    ) -> Result<Owners, AllocError>
+    pub(crate) fn of(alloc: Global, cells: &Numbered, x: &CubeSet) -> Result<Owners, AllocError>
         ensures count { IfOk result (λ o. length o ≡ length cells.now) }
         ensures owners { IfOk result (AreOwners cells.now x.now.cells) }
     {

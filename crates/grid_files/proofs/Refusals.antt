@@ -50,16 +50,22 @@ completed nothing h = (skipped_line, SkippedLine ∷ [], refl, refl)
 completed (in_full xs) h = (full (xs ++ pos 0 ∷ []), Number (pos 0) ∷ Mark 41 ∷ [], closed_more xs, corner_more is_full_end xs h refl)
 completed before_lower h = let z = pos 0 ∷ [] in (elementary z z, closed z ++ closed z ++ Mark 93 ∷ [], refl, refl)
 completed (in_lower ls) h =
-    let z : List ℤ = pos 0 ∷ [] in
-    (elementary (ls ++ pos 0 ∷ []) z, Number (pos 0) ∷ Mark 41 ∷ (closed z ++ Mark 93 ∷ []), lower_more ls z,
-    both_and (fits_corner is_file_end (ls ++ pos 0 ∷ [])) true (corner_more is_file_end ls h refl) refl)
+    let z : List ℤ = pos 0 ∷ [] in (
+      elementary (ls ++ pos 0 ∷ []) z,
+      Number (pos 0) ∷ Mark 41 ∷ (closed z ++ Mark 93 ∷ []),
+      lower_more ls z,
+      both_and (fits_corner is_file_end (ls ++ pos 0 ∷ [])) true (corner_more is_file_end ls h refl) refl,
+    )
 completed (before_upper ls) h =
     let z : List ℤ = pos 0 ∷ [] in
     (elementary ls z, closed z ++ Mark 93 ∷ [], ap (λ ps. Mark 91 ∷ ps) (append_assoc (closed ls) (closed z) (Mark 93 ∷ [])), both_and (fits_corner is_file_end ls) true h refl)
 completed (in_upper ls us) h =
-    let both = and_both (fits_corner is_file_end ls) (list_all is_file_end us) h in
-    (elementary ls (us ++ pos 0 ∷ []), Number (pos 0) ∷ Mark 41 ∷ Mark 93 ∷ [], upper_more ls us,
-    both_and (fits_corner is_file_end ls) (fits_corner is_file_end (us ++ pos 0 ∷ [])) both.0 (corner_more is_file_end us both.1 refl))
+    let both = and_both (fits_corner is_file_end ls) (list_all is_file_end us) h in (
+      elementary ls (us ++ pos 0 ∷ []),
+      Number (pos 0) ∷ Mark 41 ∷ Mark 93 ∷ [],
+      upper_more ls us,
+      both_and (fits_corner is_file_end ls) (fits_corner is_file_end (us ++ pos 0 ∷ [])) both.0 (corner_more is_file_end us both.1 refl),
+    )
 completed (before_end ls us) h =
     (elementary ls us, Mark 93 ∷ [], refl, h)
 completed behind_word h = (dimension_line (pos 1), DimensionNumber (pos 1) ∷ [], refl, refl)

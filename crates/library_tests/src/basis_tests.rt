@@ -1,8 +1,8 @@
 //! Bases of a segment, of an interval relative to its ends, and of the border of a square.
 use algebraic_reduction::Log;
 use chains::{Chain, Complex};
-use field_mod::Field;
 use cube_sets::CubeSet;
+use field_mod::Field;
 use grid_files::{Kind, read_set};
 use homology_basis::{Basis, basis, prepare};
 use std::alloc::Global;

@@ -20,7 +20,8 @@ fn map(alloc: Global, text: &str) -> Result<CubeMap, Fail> {
 
 #[test]
 fn a_cube_that_is_named_twice_has_all_its_values(rt: HostRuntime) -> Result<(), Fail> {
-    let text = "dimension 1 (5)->(7) map of a line\n(0) -> {(2)(1) (2)} ; a comment\n(5) ->{} (0)->(3)";
+    let text =
+        "dimension 1 (5)->(7) map of a line\n(0) -> {(2)(1) (2)} ; a comment\n(5) ->{} (0)->(3)";
     let read = map(rt.alloc(), text)?;
     assert_eq!(rt; read.dimension(), 1);
     assert_eq!(rt; read.len(), 2);
@@ -51,7 +52,10 @@ fn an_empty_value_names_its_cube(rt: HostRuntime) -> Result<(), Fail> {
 // Where the text is refused, and why.
 fn refusal(rt: &impl Abort, alloc: Global, text: &str, place: u64, cause: TextCause) {
     let at = TextFault::At { place, cause };
-    assert!(rt; read_map(alloc, text.as_bytes()).err() == Some(at), "in {text:?}");
+    assert!(rt;
+        read_map(alloc, text.as_bytes()).err() == Some(at),
+        "in {text:?}"
+    );
 }
 
 #[test]
@@ -72,7 +76,11 @@ fn refused_texts(rt: HostRuntime) {
         ("(0)->(1) (0 0)->(1 1)", 9, TextCause::MixedDimension),
         ("dimension 2 \n(0)->(1)", 13, TextCause::MixedDimension),
         ("(0)->(1)\ndimension 2", 19, TextCause::MixedDimension),
-        ("(0)->(1) (0 0)->(1 1 1 1 1)", 9, TextCause::DimensionTooLarge),
+        (
+            "(0)->(1) (0 0)->(1 1 1 1 1)",
+            9,
+            TextCause::DimensionTooLarge,
+        ),
         ("(1 2 3 4 5) -> {}", 0, TextCause::DimensionTooLarge),
         ("dimension 0", 10, TextCause::BadNumber),
     ] {

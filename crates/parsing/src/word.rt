@@ -94,8 +94,9 @@ fn operand_read(alloc: Global, word: &str, next: Next) -> Result<WordRead, Fault
 
 fn set_read(alloc: Global, choice: Choice, value: &str) -> Result<WordRead, Fault>
     ensures { IsDue (Ok (record {
-        said = Said.Set (record { choice = choice; value = Some value.now });
-        next = Next.Anything })) result }
+      said = Said.Set (record { choice = choice; value = Some value.now });
+      next = Next.Anything;
+    })) result }
 {
     let value = Name::of(alloc, value)?;
     let setting = Setting {

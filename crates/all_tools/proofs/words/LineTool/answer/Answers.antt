@@ -22,5 +22,5 @@ returns g c =
     let old = g.F.Files.seen c.args.files.now in
     let new = g.F.Files.seen c.answer_by.new.files in
     subst (λ (words : List (List ℕ)). Answers (asked words) old new c.answer_by.result) c.self.view_is
-    (command_answered (command_of (spoken c.self.inside.words.now)) old new c.in_ok-command.command c.answer_by.result c.in_ok-command.ensures 
+    (command_answered (command_of (spoken c.self.inside.words.now)) old new c.in_ok-command.command c.answer_by.result c.in_ok-command.ensures
     (subst (λ (tool : ToolName). Answers (job_by tool c.in_ok-command.command) old new c.answer_by.result) c.tool.ensures c.answer_by.ensures))
