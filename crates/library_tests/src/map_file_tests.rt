@@ -21,7 +21,7 @@ fn map(alloc: Global, text: &str) -> Result<CubeMap, Fail> {
 #[test]
 fn a_cube_that_is_named_twice_has_all_its_values(rt: HostRuntime) -> Result<(), Fail> {
     let text =
-        "dimension 1 (5)->(7) map of a line\n(0) -> {(2)(1) (2)} ; a comment\n(5) ->{} (0)->(3)";
+        "dimension 1\n(5)->(7) map of a line\n(0) -> {(2)(1) (2)} ; a comment\n(5) ->{} (0)->(3)";
     let read = map(rt.alloc(), text)?;
     assert_eq!(rt; read.dimension(), 1);
     assert_eq!(rt; read.len(), 2);
@@ -70,7 +70,7 @@ fn refused_texts(rt: HostRuntime) {
         ("[(0)(1)] -> (1)", 0, TextCause::BadByte),
         (" (0) -> { (1)", 1, TextCause::Unclosed),
         ("(0)->(1) (0)", 9, TextCause::Unclosed),
-        ("(0) -> (1073741824)", 8, TextCause::CoordinateTooLarge),
+        ("(0) -> (1073741825)", 8, TextCause::CoordinateTooLarge),
         ("(0) -> (9223372036854775808)", 8, TextCause::BadNumber),
         (" (0) -> {(1)(2 3)}", 1, TextCause::MixedDimension),
         ("(0)->(1) (0 0)->(1 1)", 9, TextCause::MixedDimension),

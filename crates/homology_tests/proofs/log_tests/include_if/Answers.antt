@@ -1,7 +1,7 @@
 use Rattle.std.proofs.Common.{rules, arith}
 use Rattle.algebraic_reduction.specs.Reduction.{IsUnpaired}
 use Rattle.algebraic_reduction.proofs.Dimension.{generator_on_left}
-use Rattle.library_tests.proofs.log_tests.include_if.Goals as goal
+use Rattle.homology_tests.proofs.log_tests.include_if.Goals as goal
 
 pub include-requires : goal.include-requires
 include-requires g c =

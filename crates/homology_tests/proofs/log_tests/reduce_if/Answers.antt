@@ -1,7 +1,7 @@
 use Rattle.std.proofs.Common.{rules, arith}
 use Rattle.field_mod.proofs.Table.{two_le}
 use Rattle.algebraic_reduction.proofs.Dimension.{read_nonzero}
-use Rattle.library_tests.proofs.log_tests.reduce_if.Goals as goal
+use Rattle.homology_tests.proofs.log_tests.reduce_if.Goals as goal
 
 pub reduce_pair-requires : goal.reduce_pair-requires
 reduce_pair-requires g c =
