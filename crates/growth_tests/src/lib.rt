@@ -1,0 +1,5 @@
+//! Tests of excision, through public calls alone.
+#![tactic(auto)]
+
+#[cfg(test)]
+mod excision_tests;
