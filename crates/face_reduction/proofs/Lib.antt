@@ -1,4 +1,0 @@
-pub mod Pairing
-pub mod Finding
-pub mod Taking
-pub mod Turning
