@@ -12,7 +12,6 @@ mod maps;
 mod naming;
 mod numbers;
 mod parts;
-mod plan;
 mod reducing;
 mod settling;
 

@@ -7,8 +7,8 @@ ghost use Rattle.algebraic_reduction.specs.State.{IsState, GoesOn};
 
 use crate::descending::left_boundary;
 use crate::parts::{Parts, place_of, take_row};
-use crate::plan::{Plan, Turn};
 use field_mod::Field;
+use reduction_order::{Plan, Turn};
 use std::alloc::{AllocError, Global};
 
 /// Sees that nothing is left of the boundary of b: takes b in a pair, if anything is, with a where a stands in what is left.
@@ -51,7 +51,7 @@ fn reduce_degree<const P: u16>(
     ensures state { OnOk result (IsState P parts.new.complex parts.new.places.items parts.new.steps.items) }
     ensures goes { OnOk result (GoesOn parts.old.complex parts.new.complex parts.old.steps.items parts.new.steps.items) }
 {
-    let count = plan.order(alloc, parts, degree)?;
+    let count = plan.order(alloc, &parts.complex, &parts.places, degree)?;
     for place in 0..count {
         make_turn(parts, alloc, field, plan, place)?;
     }
