@@ -1,5 +1,6 @@
--- What the maps of a list of steps are to the complex: a reduction of it; and what follows where no boundary is left.
--- (Kaczynski, Mischaikow, Mrozek: Computational Homology, Springer 2004, sections 4.3 and 4.4)
+-- What the maps of a list of steps are to the complex: a reduction of it; and what follows where no
+-- boundary is left. (Kaczynski, Mischaikow, Mrozek: Computational Homology, Springer 2004, sections
+-- 4.3 and 4.4)
 use Rattle.std.specs.Prelude.{◌≡◌, ℕ, ◌+◌, ◌*◌, ◌<◌, ◌≤◌, List, [], ◌∷◌, length, slice_index}
 use Rattle.field_mod.specs.Modular.{Same, IsField}
 use Rattle.chains.specs.Homology.{IsChain, IsBasis}
@@ -39,10 +40,12 @@ AreApart (s ∷ ss) = IsUnpaired ss s.a × IsUnpaired ss s.b × AreApart ss
 abbrev pub IsLinear : ℕ → ((ℕ → ℕ) → ℕ → ℕ) → Type 0
 IsLinear p f = (u v : ℕ) (x y : ℕ → ℕ) (g : ℕ) → Same p (f (λ h. u * x h + v * y h) g) (u * f x g + v * f y g)
 
--- the steps reduce the complex K. What is left is a complex on the generators in no step; projection, inclusion and
--- homotopy are linear, and maps of numbers modulo p; projection and inclusion go from K to what is left and back, keep degrees and commute with the
--- boundaries; the homotopy raises degrees by one; the projection of an inclusion is the chain that was included; and the
--- identity less the inclusion of the projection is the boundary of the homotopy and the homotopy of the boundary
+-- the steps reduce the complex K. What is left is a complex on the generators in no step;
+-- projection, inclusion and homotopy are linear, and maps of numbers modulo p; projection and
+-- inclusion go from K to what is left and back, keep degrees and commute with the boundaries; the
+-- homotopy raises degrees by one; the projection of an inclusion is the chain that was included;
+-- and the identity less the inclusion of the projection is the boundary of the homotopy and the
+-- homotopy of the boundary
 pub record IsReduction (p : ℕ) (K : ChainComplex) (ss : List Step) : Type 0 where
   pub steps : AreStepsOf p K ss
   pub apart : AreApart ss
@@ -81,7 +84,8 @@ pub record IsLeft (K : ChainComplex) (k : ℕ) (ss : List Step) (m : ℕ) (at : 
   pub once : (i j : ℕ) → i < m → j < m → at i ≡ at j → i ≡ j
   pub all : (g : ℕ) → g < length K.boundaries → slice_index K.degrees g ≡ k → IsUnpaired ss g → (i : ℕ) × (i < m) × (at i ≡ g)
 
--- where no boundary is left, the inclusions of the generators of degree k that are left are a basis in degree k
+-- where no boundary is left, the inclusions of the generators of degree k that are left are a basis
+-- in degree k
 abbrev pub LeftGeneratorsAreBasis : Type 0
 LeftGeneratorsAreBasis =
     (p k m : ℕ) (K : ChainComplex) (ss : List Step) (at : ℕ → ℕ)

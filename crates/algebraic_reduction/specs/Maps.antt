@@ -1,5 +1,5 @@
--- How the maps of a list of kept steps are computed: a chain that descends along the rows, and values that keep the equations of
--- the rows.
+-- How the maps of a list of kept steps are computed: a chain that descends along the rows, and
+-- values that keep the equations of the rows.
 use Rattle.std.specs.Prelude.{◌≡◌, ◌≢◌, ℕ, ◌+◌, ◌*◌, ◌<◌, ◌≤◌, List, [], ◌∷◌, length, take, if◌then◌else◌, ◌==◌, Option, Some, None}
 use Rattle.field_mod.specs.Sums.{total}
 use Rattle.field_mod.specs.Modular.{Same, minus}
@@ -21,16 +21,16 @@ projected p D ks x i = project_all p D (steps_of (take i ks)) x
 abbrev pub weight_at : ℕ → (ℕ → ℕ → ℕ) → List KeptStep → (ℕ → ℕ) → ℕ → ℕ
 weight_at p D ks x i = inverse_at ks i * projected p D ks x i (a_at ks i)
 
--- x is the chain start after the first done steps, but for what stands at their b, and w has for each of them what its homotopy
--- gives its b
+-- x is the chain start after the first done steps, but for what stands at their b, and w has for
+-- each of them what its homotopy gives its b
 pub record Descent (p : ℕ) (D : ℕ → ℕ → ℕ) (ks : List KeptStep) (start x w : ℕ → ℕ) (done : ℕ) : Type 0 where
   pub within : done ≤ length ks
   pub near : (g : ℕ) → IsNoB (steps_of (take done ks)) g → Same p (x g) (projected p D ks start done g)
   pub weights : (i : ℕ) → i < done → Same p (w i) (weight_at p D ks start i)
   pub ahead : (i : ℕ) → done ≤ i → w i ≡ 0
 
--- all steps are made: raised has what the homotopies of the single steps give, and left is the end of the descent at the
--- generators in no step
+-- all steps are made: raised has what the homotopies of the single steps give, and left is the end
+-- of the descent at the generators in no step
 pub record HasDescended (p : ℕ) (D : ℕ → ℕ → ℕ) (places : List (Option ℕ)) (ks : List KeptStep) (start : ℕ → ℕ) (left raised : List (ℕ × ℕ)) : Type 0 where
   pub chain : ℕ → ℕ
   pub descent : Descent p D ks start chain (coefficient raised) (length ks)

@@ -1,6 +1,7 @@
--- The algebraic reduction of a complex by pairs of generators. The generators are the numbers below n, and D h g is the
--- incidence number of h and g: the coefficient of g in the boundary of h. Numbers are compared modulo p.
--- (Kaczynski, Mischaikow, Mrozek: Computational Homology, Springer 2004, section 4.3)
+-- The algebraic reduction of a complex by pairs of generators. The generators are the numbers below
+-- n, and D h g is the incidence number of h and g: the coefficient of g in the boundary of h.
+-- Numbers are compared modulo p. (Kaczynski, Mischaikow, Mrozek: Computational Homology, Springer
+-- 2004, section 4.3)
 use Rattle.std.specs.Prelude.{◌≢◌, ℕ, ◌+◌, ◌*◌, ◌<◌, if◌then◌else◌, ◌==◌, List, [], ◌∷◌}
 use Rattle.field_mod.specs.Sums.{total}
 use Rattle.field_mod.specs.Modular.{Same, minus}
@@ -21,7 +22,8 @@ pub record Step : Type 0 where
   pub b : ℕ
   pub inverse : ℕ
 
--- s may be made where D is the boundary: a and b are two generators, and their incidence number has that inverse
+-- s may be made where D is the boundary: a and b are two generators, and their incidence number has
+-- that inverse
 pub record IsStep (p n : ℕ) (D : ℕ → ℕ → ℕ) (s : Step) : Type 0 where
   pub a_in : s.a < n
   pub b_in : s.b < n
@@ -63,7 +65,8 @@ abbrev pub include_all : ℕ → ℕ → (ℕ → ℕ → ℕ) → List Step →
 include_all p n D [] y = y
 include_all p n D (s ∷ ss) y = include p n D s (include_all p n (left p D s) ss y)
 
--- h of the first step, and then the homotopy of the later ones between its projection and its inclusion
+-- h of the first step, and then the homotopy of the later ones between its projection and its
+-- inclusion
 abbrev pub homotopy_all : ℕ → ℕ → (ℕ → ℕ → ℕ) → List Step → (ℕ → ℕ) → ℕ → ℕ
 homotopy_all p n D [] x g = 0
 homotopy_all p n D (s ∷ ss) x g = homotopy s x g + include p n D s (homotopy_all p n (left p D s) ss (project p D s x)) g

@@ -1,5 +1,6 @@
--- Steps that leave plain restrictions: what they leave of each boundary is the boundary itself, without its terms at the
--- generators that they take. (Kaczynski, Mischaikow, Mrozek: Computational Homology, Springer 2004, sections 2.4 and 4.3)
+-- Steps that leave plain restrictions: what they leave of each boundary is the boundary itself,
+-- without its terms at the generators that they take. (Kaczynski, Mischaikow, Mrozek: Computational
+-- Homology, Springer 2004, sections 2.4 and 4.3)
 use Rattle.std.specs.Prelude.{◌≡◌, ◌≢◌, ℕ, ◌*◌, ◌<◌, ◌≤◌, List, [], ◌∷◌, ◌++◌, length, slice_index, Bool, true, false}
 use Rattle.field_mod.specs.Modular.{Same}
 use Rattle.chains.specs.ChainComplex.{ChainComplex, IsComplex, incidence}
@@ -33,7 +34,8 @@ AreWithin part (s ∷ ss) = (part s.a ≡ true) × (part s.b ≡ true) × AreWit
 abbrev pub IsOnPart : ℕ → (ℕ → Bool) → (ℕ → ℕ) → Type 0
 IsOnPart p part z = (g : ℕ) → part g ≡ false → Same p (z g) 0
 
--- each cycle in the part is the boundary of a chain in the part, where D is the boundary on n generators of these degrees
+-- each cycle in the part is the boundary of a chain in the part, where D is the boundary on n
+-- generators of these degrees
 abbrev pub IsAcyclicPart : ℕ → ℕ → (ℕ → ℕ) → (ℕ → ℕ → ℕ) → (ℕ → Bool) → Type 0
 IsAcyclicPart p n degree D part =
     (k : ℕ) (z : ℕ → ℕ) → IsOnPart p part z → ((g : ℕ) → degree g ≢ k → Same p (z g) 0) → ((g : ℕ) → Same p (boundary_by n D z g) 0)
@@ -48,7 +50,8 @@ FreeStepsLeaveRestrictions =
     → AreStepsOf p K ss → LeaveRestrictions p K ss → IsFreeStep p K ss s
     → AreStepsOf p K (ss ++ s ∷ []) × LeaveRestrictions p K (ss ++ s ∷ [])
 
--- further steps within a closed part, all of which they take, leave restrictions as the steps before them
+-- further steps within a closed part, all of which they take, leave restrictions as the steps
+-- before them
 abbrev pub StepsWithinLeaveRestrictions : Type 0
 StepsWithinLeaveRestrictions =
     (p : ℕ) (K : ChainComplex) (ss more : List Step) (part : ℕ → Bool)
@@ -56,7 +59,8 @@ StepsWithinLeaveRestrictions =
     → ((g : ℕ) → part g ≡ true → ¬ IsUnpaired (ss ++ more) g)
     → LeaveRestrictions p K (ss ++ more)
 
--- an acyclic closed part of what is left, reduced by pairs of its own until no boundary is left in it, is gone
+-- an acyclic closed part of what is left, reduced by pairs of its own until no boundary is left in
+-- it, is gone
 abbrev pub AcyclicPartsAreTaken : Type 0
 AcyclicPartsAreTaken =
     (p : ℕ) (K : ChainComplex) (ss more : List Step) (part : ℕ → Bool)

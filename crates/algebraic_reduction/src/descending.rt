@@ -1,13 +1,9 @@
 //! The descent of a chain along the rows of the steps.
-ghost use Rattle.std.specs.Prelude.{◌≡◌, ◌≢◌, ℕ, ◌+◌, ◌*◌, ◌%◌, ◌<◌, ◌≤◌, ◌⊎◌, List, length, take, IfOk, OnOk, IfSome, None, Some, if◌then◌else◌, ◌==◌};
-ghost use Rattle.field_mod.specs.Modular.{Same};
-ghost use Rattle.chains.specs.Terms.{coefficient};
-ghost use Rattle.chains.specs.ChainComplex.{incidence};
-ghost use Rattle.algebraic_reduction.specs.Laws.{left_of, project_of};
+ghost use Rattle.std.specs.Prelude.{◌<◌, ◌≤◌, length, IfOk, OnOk, IfSome};
 ghost use Rattle.algebraic_reduction.specs.Reduction.{IsUnpaired};
-ghost use Rattle.algebraic_reduction.specs.Kept.{steps_of, a_at};
-ghost use Rattle.algebraic_reduction.specs.Maps.{HasDescended};
-ghost use Rattle.algebraic_reduction.specs.State.{IsState, place_at};
+ghost use Rattle.algebraic_reduction.specs.Kept.{steps_of};
+ghost use Rattle.algebraic_reduction.specs.LogWords.{Gives, left_at, projection};
+ghost use Rattle.algebraic_reduction.specs.Parts.{only, multiple, Holds, seen, IsStepOf, FindsStep, AddsLeft, AddsLeftModulo, TakenStay, AddsPending, ArePendingIn, DescendsTo, AreLeftTerms, IsOffSteps};
 
 use crate::numbers::Numbers;
 use crate::parts::{Parts, place_of};
@@ -17,9 +13,9 @@ use std::alloc::{AllocError, Global};
 
 /// The step from `from` on and before `bound` whose a the generator is.
 fn step_of_a<const P: u16>(parts: &Parts<P>, generator: u32, from: u32, bound: u32) -> Option<u32>
-    requires state { IsState P parts.now.complex parts.now.places.items parts.now.steps.items }
-    ensures some { IfSome result (λ i. (from ≤ i) × (i < bound) × (a_at parts.now.steps.items i ≡ generator)) }
-    ensures found { (i : ℕ) → from ≤ i → i < bound → i < length parts.now.steps.items → a_at parts.now.steps.items i ≡ generator → result ≡ Some i }
+    requires state { Holds P parts.now }
+    ensures some { IfSome result (IsStepOf P parts.now generator from bound) }
+    ensures found { FindsStep P parts.now generator from bound result }
 {
     let place = place_of(&parts.places, generator)?;
     if from <= place && place < bound && parts.steps[place as usize].a() == generator {
@@ -29,8 +25,9 @@ fn step_of_a<const P: u16>(parts: &Parts<P>, generator: u32, from: u32, bound: u
     }
 }
 
-/// Adds a number that stands at a generator: to what is pending at the step from `from` on and before `bound` whose a it is, or
-/// to what is left where it is in no step. At the a of another step and at a b it is dropped.
+/// Adds a number that stands at a generator: to what is pending at the step from `from` on and
+/// before `bound` whose a it is, or to what is left where it is in no step. At the a of another
+/// step and at a b it is dropped.
 fn spread_one<const P: u16>(
     parts: &Parts<P>,
     field: Field<P>,
@@ -43,11 +40,13 @@ fn spread_one<const P: u16>(
 ) -> Result<(), AllocError>
     requires below { number < P }
     requires bounded { bound ≤ length parts.now.steps.items }
-    requires state { IsState P parts.now.complex parts.now.places.items parts.now.steps.items }
-    ensures left { OnOk result ((g : ℕ) → place_at parts.now.places.items g ≡ None → coefficient left.new.items g ≡ coefficient left.old.items g + (if generator == g then number else 0)) }
-    ensures dropped { OnOk result ((g i : ℕ) → place_at parts.now.places.items g ≡ Some i → coefficient left.new.items g ≡ coefficient left.old.items g) }
-    ensures pending { OnOk result ((j : ℕ) → from ≤ j → j < bound → Same P (coefficient pending.new j) (coefficient pending.old j + (if generator == a_at parts.now.steps.items j then number else 0))) }
-    ensures inside { OnOk result ((j : ℕ) → coefficient pending.new j ≢ 0 → (coefficient pending.old j ≢ 0) ⊎ ((from ≤ j) × (j < bound))) }
+    requires state { Holds P parts.now }
+    ensures left { OnOk result
+        (AddsLeft P parts.now (only generator number) left.old.items left.new.items) }
+    ensures dropped { OnOk result (TakenStay P parts.now left.old.items left.new.items) }
+    ensures pending { OnOk result
+        (AddsPending P parts.now (only generator number) from bound pending.old pending.new) }
+    ensures inside { OnOk result (ArePendingIn from bound pending.old pending.new) }
 {
     if place_of(&parts.places, generator).is_none() {
         left.push((generator, number))?;
@@ -70,11 +69,13 @@ fn spread<const P: u16>(
 ) -> Result<(), AllocError>
     requires below { scale < P }
     requires bounded { bound ≤ length parts.now.steps.items }
-    requires state { IsState P parts.now.complex parts.now.places.items parts.now.steps.items }
-    ensures left { OnOk result ((g : ℕ) → place_at parts.now.places.items g ≡ None → Same P (coefficient left.new.items g) (coefficient left.old.items g + scale * coefficient chain.now g)) }
-    ensures dropped { OnOk result ((g i : ℕ) → place_at parts.now.places.items g ≡ Some i → coefficient left.new.items g ≡ coefficient left.old.items g) }
-    ensures pending { OnOk result ((j : ℕ) → from ≤ j → j < bound → Same P (coefficient pending.new j) (coefficient pending.old j + scale * coefficient chain.now (a_at parts.now.steps.items j))) }
-    ensures inside { OnOk result ((j : ℕ) → coefficient pending.new j ≢ 0 → (coefficient pending.old j ≢ 0) ⊎ ((from ≤ j) × (j < bound))) }
+    requires state { Holds P parts.now }
+    ensures left { OnOk result
+        (AddsLeftModulo P parts.now (multiple scale chain.now) left.old.items left.new.items) }
+    ensures dropped { OnOk result (TakenStay P parts.now left.old.items left.new.items) }
+    ensures pending { OnOk result
+        (AddsPending P parts.now (multiple scale chain.now) from bound pending.old pending.new) }
+    ensures inside { OnOk result (ArePendingIn from bound pending.old pending.new) }
 {
     for index in 0..chain.len() {
         let (generator, number) = chain.term(index);
@@ -84,15 +85,16 @@ fn spread<const P: u16>(
     Ok(())
 }
 
-/// What the descent of a chain comes to: terms at generators in no step, and for each step that was made its number: what its
-/// homotopy gives its b.
+/// What the descent of a chain comes to: terms at generators in no step, and for each step that was
+/// made its number: what its homotopy gives its b.
 #[derive(Drop)]
 pub struct Descended {
     pub left: Vec<(u32, u16)>,
     pub raised: Vec<(u32, u16)>,
 }
 
-/// Moves what stands at the a of a step before `bound` along its row, step after step. Only steps that the chain meets are made.
+/// Moves what stands at the a of a step before `bound` along its row, step after step. Only steps
+/// that the chain meets are made.
 pub fn descend<const P: u16>(
     parts: &Parts<P>,
     alloc: Global,
@@ -101,8 +103,9 @@ pub fn descend<const P: u16>(
     start: &Chain<P>,
 ) -> Result<Descended, AllocError>
     requires bounded { bound ≤ length parts.now.steps.items }
-    requires state { IsState P parts.now.complex parts.now.places.items parts.now.steps.items }
-    ensures { IfOk result (λ d. HasDescended P (incidence parts.now.complex.boundaries) parts.now.places.items (take bound parts.now.steps.items) (coefficient start.now) d.left.items d.raised.items) }
+    requires state { Holds P parts.now }
+    ensures { IfOk result
+        (λ d. DescendsTo P parts.now bound start.now d.left.items d.raised.items) }
 {
     let mut pending = Numbers::new(alloc, field);
     let mut left = Vec::new(alloc);
@@ -136,8 +139,8 @@ pub fn left_terms<const P: u16>(
     field: Field<P>,
     chain: &Chain<P>,
 ) -> Result<Chain<P>, AllocError>
-    ensures left { IfOk result (λ c. (g : ℕ) → place_at places.now g ≡ None → coefficient c g ≡ coefficient chain.now g % P) }
-    ensures others { IfOk result (λ c. (g i : ℕ) → place_at places.now g ≡ Some i → coefficient c g ≡ 0) }
+    ensures left { IfOk result (λ c. AreLeftTerms P places.now chain.now c) }
+    ensures others { IfOk result (λ c. IsOffSteps places.now c) }
 {
     let mut terms = Vec::new(alloc);
     for (generator, number) in chain.terms() {
@@ -156,8 +159,8 @@ pub fn project<const P: u16>(
     field: Field<P>,
     chain: &Chain<P>,
 ) -> Result<Chain<P>, AllocError>
-    requires state { IsState P parts.now.complex parts.now.places.items parts.now.steps.items }
-    ensures { IfOk result (λ c. (g : ℕ) → Same P (coefficient c g) (project_of P parts.now.complex (steps_of parts.now.steps.items) (coefficient chain.now) g)) }
+    requires state { Holds P parts.now }
+    ensures { IfOk result (λ c. Gives P c (projection P (seen P parts.now) chain.now)) }
 {
     let count = parts.steps.len() as u32;
     let descended = descend(parts, alloc, field, count, chain)?;
@@ -167,7 +170,8 @@ pub fn project<const P: u16>(
     Ok(projected)
 }
 
-/// What the steps leave of the boundary of a generator that is in none: the projection of its boundary.
+/// What the steps leave of the boundary of a generator that is in none: the projection of its
+/// boundary.
 pub fn left_boundary<const P: u16>(
     parts: &Parts<P>,
     alloc: Global,
@@ -176,8 +180,8 @@ pub fn left_boundary<const P: u16>(
 ) -> Result<Chain<P>, AllocError>
     requires inside { generator < length parts.now.complex.boundaries }
     requires alive { IsUnpaired (steps_of parts.now.steps.items) generator }
-    requires state { IsState P parts.now.complex parts.now.places.items parts.now.steps.items }
-    ensures { IfOk result (λ c. (g : ℕ) → Same P (coefficient c g) (left_of P parts.now.complex (steps_of parts.now.steps.items) generator g)) }
+    requires state { Holds P parts.now }
+    ensures { IfOk result (λ c. Gives P c (left_at P (seen P parts.now) generator)) }
 {
     let left = project(parts, alloc, field, parts.complex.boundary(generator))?;
     Ok(left)

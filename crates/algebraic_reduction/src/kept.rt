@@ -5,8 +5,8 @@ ghost use Rattle.chains.specs.Terms.{IsNormal};
 use chains::Chain;
 use std::marker::Model;
 
-/// A step with what the maps need of it: its two generators, the inverse of their incidence number, and the boundary of b when
-/// the step was made (its row).
+/// A step with what the maps need of it: its two generators, the inverse of their incidence number,
+/// and the boundary of b when the step was made (its row).
 #[derive(Drop)]
 pub struct Kept<const P: u16> {
     row: Chain<P>,
@@ -22,7 +22,10 @@ impl<const P: u16> Model for Kept<P> {
 
     ghost Value = { KeptStep };
 
-    ghost view = { λ k. record { step = record { a = k.a; b = k.b; inverse = k.inverse }; row = k.row } };
+    ghost view = { λ k. record {
+      step = record { a = k.a; b = k.b; inverse = k.inverse };
+      row = k.row;
+    } };
 
     ghost invariant = { λ k. record { inverse : k.inverse < P; row : IsNormal P k.row } };
 }
@@ -32,7 +35,10 @@ impl<const P: u16> Kept<P> {
     pub fn new(a: u32, b: u32, inverse: u16, row: Chain<P>) -> Self
         requires inverse { inverse < P }
         requires row { IsNormal P row }
-        ensures { result ≡ record { step = record { a = a; b = b; inverse = inverse }; row = row.entry } }
+        ensures { result ≡ record {
+          step = record { a = a; b = b; inverse = inverse };
+          row = row.entry;
+        } }
     {
         Kept { row, a, b, inverse }
     }

@@ -8,7 +8,8 @@ pub fn steps_are_reductions()
     ensures { StepsAreReductions }
 {}
 
-/// Where no boundary is left, the inclusions of the generators that are left are a basis, degree by degree.
+/// Where no boundary is left, the inclusions of the generators that are left are a basis, degree by
+/// degree.
 #[tactic(auto, using(crate::proofs::LeftBasis::left_generators))]
 pub fn left_generators_are_basis()
     ensures { LeftGeneratorsAreBasis }

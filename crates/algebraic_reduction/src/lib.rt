@@ -1,5 +1,5 @@
-//! The algebraic reduction of a chain complex by pairs of generators: the log of the pairs, with projection, inclusion and
-//! homotopy of all steps.
+//! The algebraic reduction of a chain complex by pairs of generators: the log of the pairs, with
+//! projection, inclusion and homotopy of all steps.
 #![tactic(auto)]
 
 mod descending;

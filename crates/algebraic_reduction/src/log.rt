@@ -1,13 +1,12 @@
 //! The log of reduced pairs.
-ghost use Rattle.std.specs.Prelude.{◌≡◌, ◌≢◌, ℕ, ◌+◌, ◌*◌, ◌%◌, ◌<◌, ◌≤◌, ◌↔◌, List, [], length, IfOk, IsTrue, Some, slice_get};
-ghost use Rattle.field_mod.specs.Sums.{total};
-ghost use Rattle.field_mod.specs.Modular.{Same, NonZero};
+ghost use Rattle.std.specs.Prelude.{◌≡◌, ◌<◌, ◌↔◌, [], length, IfOk, IsTrue, Some, slice_get};
+ghost use Rattle.field_mod.specs.Modular.{NonZero};
 ghost use Rattle.field_mod.specs.Moduli.{IsModulus};
 ghost use Rattle.chains.specs.Terms.{coefficient};
 ghost use Rattle.chains.specs.ChainComplex.{IsComplex};
-ghost use Rattle.algebraic_reduction.specs.Reduction.{IsOnLeft, IsUnpaired, single};
-ghost use Rattle.algebraic_reduction.specs.Laws.{AreStepsOf, left_of, project_of, include_of, homotopy_of, IsReduction, NothingLeft};
-ghost use Rattle.algebraic_reduction.specs.LogWords.{pairs, IsOneMore, AreFurther};
+ghost use Rattle.algebraic_reduction.specs.Reduction.{IsOnLeft, IsUnpaired};
+ghost use Rattle.algebraic_reduction.specs.Laws.{AreStepsOf, left_of, IsReduction, NothingLeft};
+ghost use Rattle.algebraic_reduction.specs.LogWords.{pairs, IsOneMore, AreFurther, Gives, left_at, projection, inclusion, homotopy_at, IsTransposed, IsSamePast};
 
 use crate::descending::{left_boundary, project};
 use crate::generators::Generators;
@@ -20,8 +19,9 @@ use field_mod::Field;
 use std::alloc::{AllocError, Global};
 use std::marker::Model;
 
-/// A complex with the list of the pairs by which it was reduced. It is seen as the complex, as it was at the start, and the
-/// list of the steps. Kept are the rows of the steps alone; the index of the rows is empty until it is asked for.
+/// A complex with the list of the pairs by which it was reduced. It is seen as the complex, as it
+/// was at the start, and the list of the steps. Kept are the rows of the steps alone; the index of
+/// the rows is empty until it is asked for.
 #[derive(Drop)]
 pub struct Log<const P: u16> {
     parts: Parts<P>,
@@ -36,9 +36,13 @@ impl<const P: u16> Model for Log<P> {
 
     ghost Value = { Reduced };
 
-    ghost view = { λ l. record { complex = l.parts.complex; steps = steps_of l.parts.steps.items } };
+    ghost view = { λ l. record {
+      complex = l.parts.complex;
+      steps = steps_of l.parts.steps.items;
+    } };
 
-    ghost invariant = { λ l. IsLog P l.parts.complex l.parts.places.items l.parts.steps.items l.names.items };
+    ghost invariant = { λ l. IsLog P l.parts.complex l.parts.places.items l.parts.steps.items
+        l.names.items };
 }
 
 impl<const P: u16> Log<P> {
@@ -69,7 +73,8 @@ impl<const P: u16> Log<P> {
         place_of(&self.parts.places, generator).is_none()
     }
 
-    /// What the steps leave of the boundary of a generator that is in none, at the cost of the steps that its boundary meets.
+    /// What the steps leave of the boundary of a generator that is in none, at the cost of the
+    /// steps that its boundary meets.
     pub fn left_boundary(
         &self,
         alloc: Global,
@@ -78,13 +83,13 @@ impl<const P: u16> Log<P> {
     ) -> Result<Chain<P>, AllocError>
         requires inside { generator < length self.now.complex.boundaries }
         requires alive { IsUnpaired self.now.steps generator }
-        ensures { IfOk result (λ c. (g : ℕ) → Same P (coefficient c g) (left_of P self.now.complex self.now.steps generator g)) }
+        ensures { IfOk result (λ c. Gives P c (left_at P self.now generator)) }
     {
         left_boundary(&self.parts, alloc, field, generator)
     }
 
-    /// How many steps there are. Its clauses hand out what a log is: a complex, a list of steps that may be made on it, and
-    /// so a reduction of it.
+    /// How many steps there are. Its clauses hand out what a log is: a complex, a list of steps
+    /// that may be made on it, and so a reduction of it.
     pub fn step_count(&self) -> u32
         ensures count { result ≡ length self.now.steps }
         ensures complex { IsComplex P self.now.complex }
@@ -103,8 +108,8 @@ impl<const P: u16> Log<P> {
         (step.a(), step.b())
     }
 
-    /// One more step, by the pair of a and b, which are in none and whose incidence number in what is left is not 0. Where
-    /// memory is wanting the log is consumed.
+    /// One more step, by the pair of a and b, which are in none and whose incidence number in what
+    /// is left is not 0. Where memory is wanting the log is consumed.
     pub fn reduce_pair(self, field: Field<P>, a: u32, b: u32) -> Result<Log<P>, AllocError>
         requires a_alive { (a < length self.complex.boundaries) × IsUnpaired self.steps a }
         requires b_alive { (b < length self.complex.boundaries) × IsUnpaired self.steps b }
@@ -147,8 +152,9 @@ impl<const P: u16> Log<P> {
         })
     }
 
-    /// The same log with the index of its rows, by which transposed projections cost no more than the steps in whose rows
-    /// their chains stand. Further steps drop it. Where memory is wanting the log is consumed.
+    /// The same log with the index of its rows, by which transposed projections cost no more than
+    /// the steps in whose rows their chains stand. Further steps drop it. Where memory is wanting
+    /// the log is consumed.
     pub fn index_rows(self) -> Result<Log<P>, AllocError>
         ensures { IfOk result (λ l. l ≡ self.entry) }
     {
@@ -166,14 +172,15 @@ impl<const P: u16> Log<P> {
         })
     }
 
-    /// The projection of a chain to what is left. Its cost is that of the steps that the chain meets.
+    /// The projection of a chain to what is left. Its cost is that of the steps that the chain
+    /// meets.
     pub fn project(
         &self,
         alloc: Global,
         field: Field<P>,
         chain: &Chain<P>,
     ) -> Result<Chain<P>, AllocError>
-        ensures { IfOk result (λ c. (g : ℕ) → Same P (coefficient c g) (project_of P self.now.complex self.now.steps (coefficient chain.now) g)) }
+        ensures { IfOk result (λ c. Gives P c (projection P self.now chain.now)) }
     {
         project(&self.parts, alloc, field, chain)
     }
@@ -186,7 +193,7 @@ impl<const P: u16> Log<P> {
         chain: &Chain<P>,
     ) -> Result<Chain<P>, AllocError>
         requires { IsOnLeft P self.now.steps (coefficient chain.now) }
-        ensures { IfOk result (λ c. (g : ℕ) → Same P (coefficient c g) (include_of P self.now.complex self.now.steps (coefficient chain.now) g)) }
+        ensures { IfOk result (λ c. Gives P c (inclusion P self.now chain.now)) }
     {
         maps::include(&self.parts, alloc, field, chain)
     }
@@ -198,22 +205,23 @@ impl<const P: u16> Log<P> {
         field: Field<P>,
         chain: &Chain<P>,
     ) -> Result<Chain<P>, AllocError>
-        ensures { IfOk result (λ c. (g : ℕ) → Same P (coefficient c g) (homotopy_of P self.now.complex self.now.steps (coefficient chain.now) g)) }
+        ensures { IfOk result (λ c. Gives P c (homotopy_at P self.now chain.now)) }
     {
         maps::homotopy(&self.parts, alloc, field, chain)
     }
 
-    /// The transposed projection of a chain: the chain whose coefficient at a generator is the product of the given one with
-    /// the projection of the generator. Past the generators it is the given chain. With the index of the rows its cost is that of the
-    /// steps in whose rows it stands; without it, the index is made for this call.
+    /// The transposed projection of a chain: the chain whose coefficient at a generator is the
+    /// product of the given one with the projection of the generator. Past the generators it is the
+    /// given chain. With the index of the rows its cost is that of the steps in whose rows it
+    /// stands; without it, the index is made for this call.
     pub fn transposed_projection(
         &self,
         alloc: Global,
         field: Field<P>,
         chain: &Chain<P>,
     ) -> Result<Chain<P>, AllocError>
-        ensures value { IfOk result (λ c. (g : ℕ) → g < length self.now.complex.boundaries → Same P (coefficient c g) (total (length self.now.complex.boundaries) (λ h. coefficient chain.now h * project_of P self.now.complex self.now.steps (single g) h))) }
-        ensures past { IfOk result (λ c. (g : ℕ) → length self.now.complex.boundaries ≤ g → Same P (coefficient c g) (coefficient chain.now g)) }
+        ensures value { IfOk result (λ c. IsTransposed P self.now chain.now c) }
+        ensures past { IfOk result (λ c. IsSamePast P self.now chain.now c) }
     {
         if self.names.len() == self.parts.complex.len() as usize {
             return maps::transposed_projection(&self.parts, &self.names, alloc, field, chain);

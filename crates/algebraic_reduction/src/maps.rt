@@ -1,14 +1,10 @@
 //! The maps of all steps, but for the projection.
-ghost use Rattle.std.specs.Prelude.{◌≡◌, ◌≢◌, ℕ, ◌+◌, ◌-◌, ◌*◌, ◌<◌, ◌≤◌, ◌⊎◌, length, IfOk, OnOk};
-ghost use Rattle.field_mod.specs.Sums.{total};
-ghost use Rattle.field_mod.specs.Modular.{Same, minus};
+ghost use Rattle.std.specs.Prelude.{◌≡◌, ◌<◌, length, IfOk, OnOk};
 ghost use Rattle.chains.specs.Terms.{coefficient};
-ghost use Rattle.chains.specs.ChainComplex.{incidence};
-ghost use Rattle.algebraic_reduction.specs.Reduction.{IsOnLeft, single};
-ghost use Rattle.algebraic_reduction.specs.Laws.{project_of, include_of, homotopy_of};
-ghost use Rattle.algebraic_reduction.specs.Kept.{steps_of, b_at};
-ghost use Rattle.algebraic_reduction.specs.Maps.{weight_at};
-ghost use Rattle.algebraic_reduction.specs.State.{IsState, AreNames};
+ghost use Rattle.algebraic_reduction.specs.Reduction.{IsOnLeft};
+ghost use Rattle.algebraic_reduction.specs.Kept.{steps_of};
+ghost use Rattle.algebraic_reduction.specs.LogWords.{Gives, inclusion, homotopy_at, IsTransposed, IsSamePast};
+ghost use Rattle.algebraic_reduction.specs.Parts.{multiple, Holds, seen, AreNamesIn, AddsBack, ArePendingAt, ArePendingBefore, taken_back};
 
 use crate::descending::{Descended, descend, left_terms};
 use crate::generators::Generators;
@@ -19,8 +15,8 @@ use chains::Chain;
 use field_mod::Field;
 use std::alloc::{AllocError, Global};
 
-/// Adds a multiple of the numbers of steps to what is pending, where each step stands by how many of so many steps come after
-/// it: so the last one comes first.
+/// Adds a multiple of the numbers of steps to what is pending, where each step stands by how many
+/// of so many steps come after it: so the last one comes first.
 fn turn_back<const P: u16>(
     field: Field<P>,
     numbers: &[(u32, u16)],
@@ -29,8 +25,9 @@ fn turn_back<const P: u16>(
     pending: &mut Numbers<P>,
 ) -> Result<(), AllocError>
     requires below { scale < P }
-    ensures sum { OnOk result ((j : ℕ) → j < count → Same P (coefficient pending.new (count - 1 - j)) (coefficient pending.old (count - 1 - j) + scale * coefficient numbers.now j)) }
-    ensures inside { OnOk result ((k : ℕ) → coefficient pending.new k ≢ 0 → (coefficient pending.old k ≢ 0) ⊎ ((j : ℕ) × (j < count) × (k ≡ count - 1 - j) × (coefficient numbers.now j ≢ 0))) }
+    ensures sum { OnOk result
+        (AddsBack P (multiple scale numbers.now) count count pending.old pending.new) }
+    ensures inside { OnOk result (ArePendingAt numbers.now count pending.old pending.new) }
 {
     for index in 0..numbers.len() {
         let (place, number) = numbers[index];
@@ -41,7 +38,8 @@ fn turn_back<const P: u16>(
     Ok(())
 }
 
-/// Takes a multiple of the homotopy of the boundary of a step's b, along the steps before it, out of what is pending.
+/// Takes a multiple of the homotopy of the boundary of a step's b, along the steps before it, out
+/// of what is pending.
 fn go_back<const P: u16>(
     parts: &Parts<P>,
     alloc: Global,
@@ -54,9 +52,10 @@ fn go_back<const P: u16>(
     requires inside { place < count }
     requires count { count ≡ length parts.now.steps.items }
     requires below { number < P }
-    requires state { IsState P parts.now.complex parts.now.places.items parts.now.steps.items }
-    ensures sum { OnOk result ((j : ℕ) → j < place → Same P (coefficient pending.new (count - 1 - j)) (coefficient pending.old (count - 1 - j) + minus P (number * weight_at P (incidence parts.now.complex.boundaries) parts.now.steps.items (incidence parts.now.complex.boundaries (b_at parts.now.steps.items place)) j))) }
-    ensures inside { OnOk result ((k : ℕ) → coefficient pending.new k ≢ 0 → (coefficient pending.old k ≢ 0) ⊎ ((count ≤ k + place) × (k < count))) }
+    requires state { Holds P parts.now }
+    ensures sum { OnOk result
+        (AddsBack P (taken_back P parts.now place number) place count pending.old pending.new) }
+    ensures inside { OnOk result (ArePendingBefore place count pending.old pending.new) }
 {
     let b = parts.steps[place as usize].b();
     let descended = descend(parts, alloc, field, place, parts.complex.boundary(b))?;
@@ -66,16 +65,16 @@ fn go_back<const P: u16>(
     Ok(())
 }
 
-/// The homotopy of a chain: down the rows first, and then back from the last step that was made; for each the boundary of its b
-/// goes down the rows of the steps before it.
+/// The homotopy of a chain: down the rows first, and then back from the last step that was made;
+/// for each the boundary of its b goes down the rows of the steps before it.
 pub fn homotopy<const P: u16>(
     parts: &Parts<P>,
     alloc: Global,
     field: Field<P>,
     chain: &Chain<P>,
 ) -> Result<Chain<P>, AllocError>
-    requires state { IsState P parts.now.complex parts.now.places.items parts.now.steps.items }
-    ensures { IfOk result (λ c. (g : ℕ) → Same P (coefficient c g) (homotopy_of P parts.now.complex (steps_of parts.now.steps.items) (coefficient chain.now) g)) }
+    requires state { Holds P parts.now }
+    ensures { IfOk result (λ c. Gives P c (homotopy_at P (seen P parts.now) chain.now)) }
 {
     let count = parts.steps.len() as u32;
     let descended = descend(parts, alloc, field, count, chain)?;
@@ -102,9 +101,9 @@ pub fn include<const P: u16>(
     field: Field<P>,
     chain: &Chain<P>,
 ) -> Result<Chain<P>, AllocError>
-    requires state { IsState P parts.now.complex parts.now.places.items parts.now.steps.items }
+    requires state { Holds P parts.now }
     requires left { IsOnLeft P (steps_of parts.now.steps.items) (coefficient chain.now) }
-    ensures { IfOk result (λ c. (g : ℕ) → Same P (coefficient c g) (include_of P parts.now.complex (steps_of parts.now.steps.items) (coefficient chain.now) g)) }
+    ensures { IfOk result (λ c. Gives P c (inclusion P (seen P parts.now) chain.now)) }
 {
     let boundary = parts.complex.boundary_of(alloc, field, chain)?;
     let raised = homotopy(parts, alloc, field, &boundary)?;
@@ -121,10 +120,10 @@ pub fn transposed_projection<const P: u16>(
     field: Field<P>,
     chain: &Chain<P>,
 ) -> Result<Chain<P>, AllocError>
-    requires names { AreNames P (length parts.now.complex.boundaries) parts.now.steps.items names.now }
-    requires state { IsState P parts.now.complex parts.now.places.items parts.now.steps.items }
-    ensures value { IfOk result (λ c. (g : ℕ) → g < length parts.now.complex.boundaries → Same P (coefficient c g) (total (length parts.now.complex.boundaries) (λ h. coefficient chain.now h * project_of P parts.now.complex (steps_of parts.now.steps.items) (single g) h))) }
-    ensures past { IfOk result (λ c. (g : ℕ) → length parts.now.complex.boundaries ≤ g → Same P (coefficient c g) (coefficient chain.now g)) }
+    requires names { AreNamesIn P parts.now names.now }
+    requires state { Holds P parts.now }
+    ensures value { IfOk result (λ c. IsTransposed P (seen P parts.now) chain.now c) }
+    ensures past { IfOk result (λ c. IsSamePast P (seen P parts.now) chain.now c) }
 {
     let start = left_terms(&parts.places, alloc, field, chain)?;
     let values = settle(parts, alloc, field, names, &start)?;

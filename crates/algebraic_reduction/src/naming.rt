@@ -17,7 +17,8 @@ fn name_row<const P: u16>(
     row: &Chain<P>,
 ) -> Result<(), AllocError>
     ensures stay { OnOk result (NamesStay lists.old lists.new) }
-    ensures named { OnOk result ((g : ℕ) → g < length lists.new → coefficient row.now g ≢ 0 → Names lists.new g generator) }
+    ensures named { OnOk result ((g : ℕ) → g < length lists.new → coefficient row.now g ≢ 0
+        → Names lists.new g generator) }
 {
     for (at, _) in row.terms() {
         let place = *at as usize;
@@ -40,7 +41,8 @@ fn empty_lists(alloc: Global, count: u32) -> Result<Vec<Generators>, AllocError>
 
 /// Names the b of each step in the lists at the generators of its row.
 fn name_steps<const P: u16>(steps: &[Kept<P>], lists: &mut [Generators]) -> Result<(), AllocError>
-    ensures { OnOk result ((i g : ℕ) → i < length steps.now → g < length lists.new → NonZero P (row_at steps.now i g) → Names lists.new g (b_at steps.now i)) }
+    ensures { OnOk result ((i g : ℕ) → i < length steps.now → g < length lists.new
+        → NonZero P (row_at steps.now i g) → Names lists.new g (b_at steps.now i)) }
 {
     for place in 0..steps.len() {
         let step = &steps[place];

@@ -9,8 +9,8 @@ use std::alloc::{AllocError, Global};
 use std::collections::BTreeMap;
 use std::marker::Model;
 
-/// Numbers modulo `P` other than 0 at places, seen as the list of the places with their numbers; elsewhere is 0. Each call
-/// goes along one path of a tree.
+/// Numbers modulo `P` other than 0 at places, seen as the list of the places with their numbers;
+/// elsewhere is 0. Each call goes along one path of a tree.
 #[derive(Drop)]
 pub struct Numbers<const P: u16> {
     kept: BTreeMap<u32, u16>,
@@ -25,7 +25,11 @@ impl<const P: u16> Model for Numbers<P> {
 
     ghost view = { λ n. n.kept.entries };
 
-    ghost invariant = { λ n. record { positive : 0 < P; ordered : IsOrdered nat_cmp n.kept; numbers : (j x : ℕ) → get nat_cmp n.kept j ≡ Some x → (0 < x) × (x < P) } };
+    ghost invariant = { λ n. record {
+      positive : 0 < P;
+      ordered : IsOrdered nat_cmp n.kept;
+      numbers : (j x : ℕ) → get nat_cmp n.kept j ≡ Some x → (0 < x) × (x < P);
+    } };
 }
 
 impl<const P: u16> Numbers<P> {
@@ -61,7 +65,8 @@ impl<const P: u16> Numbers<P> {
     fn set(&mut self, place: u32, number: u16) -> Result<(), AllocError>
         requires { number < P }
         ensures here { OnOk result (coefficient self.new place ≡ number) }
-        ensures others { OnOk result ((j : ℕ) → j ≢ place → coefficient self.new j ≡ coefficient self.old j) }
+        ensures others { OnOk result
+            ((j : ℕ) → j ≢ place → coefficient self.new j ≡ coefficient self.old j) }
     {
         if number == 0 {
             let _ = self.kept.remove(&place);
@@ -74,8 +79,10 @@ impl<const P: u16> Numbers<P> {
     /// Adds a number to the one at a place.
     pub fn add(&mut self, field: Field<P>, place: u32, number: u16) -> Result<(), AllocError>
         requires { number < P }
-        ensures sum { OnOk result ((j : ℕ) → Same P (coefficient self.new j) (coefficient self.old j + (if j == place then number else 0))) }
-        ensures others { OnOk result ((j : ℕ) → j ≢ place → coefficient self.new j ≡ coefficient self.old j) }
+        ensures sum { OnOk result ((j : ℕ) → Same P (coefficient self.new j)
+            (coefficient self.old j + (if j == place then number else 0))) }
+        ensures others { OnOk result
+            ((j : ℕ) → j ≢ place → coefficient self.new j ≡ coefficient self.old j) }
     {
         let sum = field.add(self.at(place), number);
         self.set(place, sum)?;
@@ -87,7 +94,8 @@ impl<const P: u16> Numbers<P> {
         ensures number { IfSome result (λ t. t.1 ≡ coefficient self.old t.0) }
         ensures nonzero { IfSome result (λ t. 0 < t.1) }
         ensures below { IfSome result (λ t. t.1 < P) }
-        ensures others { IfSome result (λ t. (j : ℕ) → j ≢ t.0 → coefficient self.new j ≡ coefficient self.old j) }
+        ensures others { IfSome result (λ t. (j : ℕ) → j ≢ t.0
+            → coefficient self.new j ≡ coefficient self.old j) }
         ensures later { IfSome result (λ t. (j : ℕ) → coefficient self.new j ≢ 0 → t.0 < j) }
         ensures shorter { IfSome result (λ t. length self.new < length self.old) }
         ensures none { IfNone result ((j : ℕ) → coefficient self.old j ≡ 0) }

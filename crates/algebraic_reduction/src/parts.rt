@@ -1,19 +1,18 @@
 //! The fields of a log, and one step more on them.
-ghost use Rattle.std.specs.Prelude.{◌≡◌, ◌≢◌, ℕ, ◌<◌, ◌++◌, ◌∷◌, List, [], length, OnOk, IfOk, None};
-ghost use Rattle.field_mod.specs.Modular.{Same, NonZero};
-ghost use Rattle.chains.specs.Terms.{coefficient};
-ghost use Rattle.algebraic_reduction.specs.Reduction.{IsUnpaired};
-ghost use Rattle.algebraic_reduction.specs.Laws.{left_of};
+ghost use Rattle.std.specs.Prelude.{◌≡◌, ℕ, [], length, OnOk, IfOk, None};
+ghost use Rattle.field_mod.specs.Modular.{NonZero};
 ghost use Rattle.algebraic_reduction.specs.Kept.{steps_of};
-ghost use Rattle.algebraic_reduction.specs.LogWords.{IsOneMore};
-ghost use Rattle.algebraic_reduction.specs.State.{IsState, GoesOn, place_at};
+ghost use Rattle.algebraic_reduction.specs.LogWords.{IsOneMore, Gives, left_at};
+ghost use Rattle.algebraic_reduction.specs.State.{IsState, place_at};
+ghost use Rattle.algebraic_reduction.specs.Parts.{Holds, Goes, IsAlive, seen, IsDone};
 
 use crate::kept::Kept;
 use chains::{Chain, Complex};
 use field_mod::Field;
 use std::alloc::{AllocError, Global};
 
-/// The fields of a log: the complex, as it was at the start, for each generator the step that it is in, and the steps.
+/// The fields of a log: the complex, as it was at the start, for each generator the step that it is
+/// in, and the steps.
 #[derive(Drop)]
 pub struct Parts<const P: u16> {
     pub complex: Complex<P>,
@@ -32,7 +31,8 @@ fn no_places(alloc: Global, count: u32) -> Result<Vec<Option<u32>>, AllocError>
     Ok(places)
 }
 
-/// The fields of a log of the complex without steps. The complex is moved in; nothing of it is copied.
+/// The fields of a log of the complex without steps. The complex is moved in; nothing of it is
+/// copied.
 pub fn start_parts<const P: u16>(alloc: Global, complex: Complex<P>) -> Result<Parts<P>, AllocError>
     ensures state { IfOk result (λ p. IsState P p.complex p.places.items p.steps.items) }
     ensures complex { IfOk result (λ p. p.complex ≡ complex.entry) }
@@ -58,7 +58,8 @@ pub fn place_of(places: &[Option<u32>], generator: u32) -> Option<u32>
     }
 }
 
-/// Makes the step of the pair a and b, where the row is what the steps so far leave of the boundary of b.
+/// Makes the step of the pair a and b, where the row is what the steps so far leave of the boundary
+/// of b.
 pub fn take_row<const P: u16>(
     parts: &mut Parts<P>,
     field: Field<P>,
@@ -66,15 +67,16 @@ pub fn take_row<const P: u16>(
     b: u32,
     row: Chain<P>,
 ) -> Result<(), AllocError>
-    requires state { IsState P parts.old.complex parts.old.places.items parts.old.steps.items }
-    requires a_in { (a < length parts.old.complex.boundaries) × IsUnpaired (steps_of parts.old.steps.items) a }
-    requires b_in { (b < length parts.old.complex.boundaries) × IsUnpaired (steps_of parts.old.steps.items) b }
-    requires row_is { (g : ℕ) → Same P (coefficient row g) (left_of P parts.old.complex (steps_of parts.old.steps.items) b g) }
-    requires incident { NonZero P (left_of P parts.old.complex (steps_of parts.old.steps.items) b a) }
-    ensures state { OnOk result (IsState P parts.new.complex parts.new.places.items parts.new.steps.items) }
-    ensures one_more { OnOk result (IsOneMore (steps_of parts.old.steps.items) (steps_of parts.new.steps.items) a b) }
-    ensures goes { OnOk result (GoesOn parts.old.complex parts.new.complex parts.old.steps.items parts.new.steps.items) }
-    ensures taken { OnOk result ((g : ℕ) → Same P (left_of P parts.new.complex (steps_of parts.new.steps.items) b g) 0) }
+    requires state { Holds P parts.old }
+    requires a_in { IsAlive P parts.old a }
+    requires b_in { IsAlive P parts.old b }
+    requires row_is { Gives P row (left_at P (seen P parts.old) b) }
+    requires incident { NonZero P (left_at P (seen P parts.old) b a) }
+    ensures state { OnOk result (Holds P parts.new) }
+    ensures one_more { OnOk result
+        (IsOneMore (steps_of parts.old.steps.items) (steps_of parts.new.steps.items) a b) }
+    ensures goes { OnOk result (Goes P parts.old parts.new) }
+    ensures taken { OnOk result (IsDone P parts.new b) }
 {
     let inverse = field.inv(row.coefficient(a));
     let place = parts.steps.len() as u32;

@@ -1,9 +1,8 @@
 //! Reducing by pairs until no boundary is left.
-ghost use Rattle.std.specs.Prelude.{◌≡◌, ℕ, ◌<◌, length, OnOk};
-ghost use Rattle.field_mod.specs.Modular.{Same};
-ghost use Rattle.algebraic_reduction.specs.Laws.{left_of, NothingLeft};
+ghost use Rattle.std.specs.Prelude.{◌<◌, length, OnOk};
+ghost use Rattle.algebraic_reduction.specs.Laws.{NothingLeft};
 ghost use Rattle.algebraic_reduction.specs.Kept.{steps_of};
-ghost use Rattle.algebraic_reduction.specs.State.{IsState, GoesOn};
+ghost use Rattle.algebraic_reduction.specs.Parts.{Holds, Goes, IsDone};
 
 use crate::descending::left_boundary;
 use crate::parts::{Parts, place_of, take_row};
@@ -11,7 +10,8 @@ use field_mod::Field;
 use reduction_order::{Plan, Turn};
 use std::alloc::{AllocError, Global};
 
-/// Sees that nothing is left of the boundary of b: takes b in a pair, if anything is, with a where a stands in what is left.
+/// Sees that nothing is left of the boundary of b: takes b in a pair, if anything is, with a where
+/// a stands in what is left.
 fn finish<const P: u16>(
     parts: &mut Parts<P>,
     alloc: Global,
@@ -20,10 +20,10 @@ fn finish<const P: u16>(
     turn: Turn,
 ) -> Result<(), AllocError>
     requires inside { turn.b < length parts.old.complex.boundaries }
-    requires state { IsState P parts.old.complex parts.old.places.items parts.old.steps.items }
-    ensures state { OnOk result (IsState P parts.new.complex parts.new.places.items parts.new.steps.items) }
-    ensures goes { OnOk result (GoesOn parts.old.complex parts.new.complex parts.old.steps.items parts.new.steps.items) }
-    ensures empty { OnOk result ((g : ℕ) → Same P (left_of P parts.new.complex (steps_of parts.new.steps.items) turn.b g) 0) }
+    requires state { Holds P parts.old }
+    ensures state { OnOk result (Holds P parts.new) }
+    ensures goes { OnOk result (Goes P parts.old parts.new) }
+    ensures empty { OnOk result (IsDone P parts.new turn.b) }
 {
     if place_of(&parts.places, turn.b).is_some() {
         return Ok(());
@@ -47,9 +47,9 @@ fn reduce_degree<const P: u16>(
     plan: &mut Plan,
     degree: usize,
 ) -> Result<(), AllocError>
-    requires state { IsState P parts.old.complex parts.old.places.items parts.old.steps.items }
-    ensures state { OnOk result (IsState P parts.new.complex parts.new.places.items parts.new.steps.items) }
-    ensures goes { OnOk result (GoesOn parts.old.complex parts.new.complex parts.old.steps.items parts.new.steps.items) }
+    requires state { Holds P parts.old }
+    ensures state { OnOk result (Holds P parts.new) }
+    ensures goes { OnOk result (Goes P parts.old parts.new) }
 {
     let count = plan.order(alloc, &parts.complex, &parts.places, degree)?;
     for place in 0..count {
@@ -66,9 +66,9 @@ fn make_turn<const P: u16>(
     plan: &mut Plan,
     place: usize,
 ) -> Result<(), AllocError>
-    requires state { IsState P parts.old.complex parts.old.places.items parts.old.steps.items }
-    ensures state { OnOk result (IsState P parts.new.complex parts.new.places.items parts.new.steps.items) }
-    ensures goes { OnOk result (GoesOn parts.old.complex parts.new.complex parts.old.steps.items parts.new.steps.items) }
+    requires state { Holds P parts.old }
+    ensures state { OnOk result (Holds P parts.new) }
+    ensures goes { OnOk result (Goes P parts.old parts.new) }
 {
     let Some(turn) = plan.turn(place) else {
         return Ok(());
@@ -87,9 +87,9 @@ fn reduce_by_plan<const P: u16>(
     field: Field<P>,
     plan: &mut Plan,
 ) -> Result<(), AllocError>
-    requires state { IsState P parts.old.complex parts.old.places.items parts.old.steps.items }
-    ensures state { OnOk result (IsState P parts.new.complex parts.new.places.items parts.new.steps.items) }
-    ensures goes { OnOk result (GoesOn parts.old.complex parts.new.complex parts.old.steps.items parts.new.steps.items) }
+    requires state { Holds P parts.old }
+    ensures state { OnOk result (Holds P parts.new) }
+    ensures goes { OnOk result (Goes P parts.old parts.new) }
 {
     let degrees = plan.degrees();
     for done in 0..degrees {
@@ -98,15 +98,16 @@ fn reduce_by_plan<const P: u16>(
     Ok(())
 }
 
-/// Reduces by pairs until no boundary is left: by a plan, and then what the plan has forgotten, one generator at a time.
+/// Reduces by pairs until no boundary is left: by a plan, and then what the plan has forgotten, one
+/// generator at a time.
 pub fn reduce_parts<const P: u16>(
     parts: &mut Parts<P>,
     alloc: Global,
     field: Field<P>,
 ) -> Result<(), AllocError>
-    requires state { IsState P parts.old.complex parts.old.places.items parts.old.steps.items }
-    ensures state { OnOk result (IsState P parts.new.complex parts.new.places.items parts.new.steps.items) }
-    ensures goes { OnOk result (GoesOn parts.old.complex parts.new.complex parts.old.steps.items parts.new.steps.items) }
+    requires state { Holds P parts.old }
+    ensures state { OnOk result (Holds P parts.new) }
+    ensures goes { OnOk result (Goes P parts.old parts.new) }
     ensures empty { OnOk result (NothingLeft P parts.new.complex (steps_of parts.new.steps.items)) }
 {
     let mut plan = Plan::of(alloc, &parts.complex)?;

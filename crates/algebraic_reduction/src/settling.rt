@@ -1,12 +1,10 @@
 //! Solving the equations of the rows, the last ones first.
-ghost use Rattle.std.specs.Prelude.{◌≡◌, ◌≢◌, ℕ, ◌+◌, ◌*◌, ◌<◌, ◌≤◌, ◌⊎◌, true, false, length, IfOk, OnOk, IfSome, Some, if◌then◌else◌, ◌==◌};
+ghost use Rattle.std.specs.Prelude.{◌≡◌, ℕ, ◌<◌, ◌≤◌, true, length, IfOk, OnOk, IfSome, Some};
 ghost use Rattle.std.specs.Ordering.{nat_cmp};
 ghost use Rattle.std.specs.BTreeSet.{contains};
-ghost use Rattle.field_mod.specs.Modular.{Same, NonZero, minus};
-ghost use Rattle.chains.specs.Terms.{coefficient, product, IsNormal};
-ghost use Rattle.algebraic_reduction.specs.Kept.{a_at, b_at, row_at, nth};
-ghost use Rattle.algebraic_reduction.specs.Maps.{IsSettled, rows};
-ghost use Rattle.algebraic_reduction.specs.State.{IsState, AreNames};
+ghost use Rattle.chains.specs.Terms.{IsNormal};
+ghost use Rattle.algebraic_reduction.specs.Kept.{b_at, nth};
+ghost use Rattle.algebraic_reduction.specs.Parts.{Holds, AreNamesIn, StayDue, ComeDueBelow, NamingComeDue, NamingComeDueBy, AllNamingComeDue, IsSettledAt, NamingPivotComeDue, IsOffPivots, StaysOffPivots, AreSettled};
 
 use crate::due::{insert_due, pop_due};
 use crate::generators::Generators;
@@ -20,9 +18,10 @@ use std::collections::BTreeSet;
 /// The step before `bound` whose b the generator is.
 fn step_of_b<const P: u16>(parts: &Parts<P>, generator: u32, bound: u32) -> Option<u32>
     requires inside { bound ≤ length parts.now.steps.items }
-    requires state { IsState P parts.now.complex parts.now.places.items parts.now.steps.items }
+    requires state { Holds P parts.now }
     ensures below { IfSome result (λ i. i < bound) }
-    ensures found { (i : ℕ) → i < bound → b_at parts.now.steps.items i ≡ generator → result ≡ Some i }
+    ensures found { (i : ℕ) → i < bound → b_at parts.now.steps.items i ≡ generator
+        → result ≡ Some i }
 {
     let place = place_of(&parts.places, generator)?;
     if place < bound && parts.steps[place as usize].b() == generator {
@@ -40,10 +39,12 @@ fn make_one_due<const P: u16>(
     due: &mut BTreeSet<u32>,
 ) -> Result<(), AllocError>
     requires inside { bound ≤ length parts.now.steps.items }
-    requires state { IsState P parts.now.complex parts.now.places.items parts.now.steps.items }
-    ensures kept { OnOk result ((j : ℕ) → contains nat_cmp due.old j ≡ true → contains nat_cmp due.new j ≡ true) }
-    ensures added { OnOk result ((j : ℕ) → j < bound → b_at parts.now.steps.items j ≡ generator → contains nat_cmp due.new j ≡ true) }
-    ensures below { OnOk result ((j : ℕ) → contains nat_cmp due.new j ≡ true → (contains nat_cmp due.old j ≡ true) ⊎ (j < bound)) }
+    requires state { Holds P parts.now }
+    ensures kept { OnOk result (StayDue (contains nat_cmp due.old) (contains nat_cmp due.new)) }
+    ensures added { OnOk result ((j : ℕ) → j < bound → b_at parts.now.steps.items j ≡ generator
+        → contains nat_cmp due.new j ≡ true) }
+    ensures below { OnOk result
+        (ComeDueBelow bound (contains nat_cmp due.old) (contains nat_cmp due.new)) }
 {
     match step_of_b(parts, generator, bound) {
         Some(step) => insert_due(due, step),
@@ -59,12 +60,14 @@ fn make_due<const P: u16>(
     bound: u32,
     due: &mut BTreeSet<u32>,
 ) -> Result<(), AllocError>
-    requires names { AreNames P (length parts.now.complex.boundaries) parts.now.steps.items names.now }
+    requires names { AreNamesIn P parts.now names.now }
     requires inside { bound ≤ length parts.now.steps.items }
-    requires state { IsState P parts.now.complex parts.now.places.items parts.now.steps.items }
-    ensures kept { OnOk result ((j : ℕ) → contains nat_cmp due.old j ≡ true → contains nat_cmp due.new j ≡ true) }
-    ensures added { OnOk result ((j : ℕ) → j < bound → generator < length parts.now.complex.boundaries → NonZero P (row_at parts.now.steps.items j generator) → contains nat_cmp due.new j ≡ true) }
-    ensures below { OnOk result ((j : ℕ) → contains nat_cmp due.new j ≡ true → (contains nat_cmp due.old j ≡ true) ⊎ (j < bound)) }
+    requires state { Holds P parts.now }
+    ensures kept { OnOk result (StayDue (contains nat_cmp due.old) (contains nat_cmp due.new)) }
+    ensures added { OnOk result
+        (NamingComeDue P parts.now generator bound (contains nat_cmp due.new)) }
+    ensures below { OnOk result
+        (ComeDueBelow bound (contains nat_cmp due.old) (contains nat_cmp due.new)) }
 {
     let place = generator as usize;
     if place >= names.len() {
@@ -86,12 +89,14 @@ fn make_due_unless_zero<const P: u16>(
     bound: u32,
     due: &mut BTreeSet<u32>,
 ) -> Result<(), AllocError>
-    requires names { AreNames P (length parts.now.complex.boundaries) parts.now.steps.items names.now }
+    requires names { AreNamesIn P parts.now names.now }
     requires inside { bound ≤ length parts.now.steps.items }
-    requires state { IsState P parts.now.complex parts.now.places.items parts.now.steps.items }
-    ensures kept { OnOk result ((j : ℕ) → contains nat_cmp due.old j ≡ true → contains nat_cmp due.new j ≡ true) }
-    ensures added { OnOk result ((j : ℕ) → j < bound → generator < length parts.now.complex.boundaries → number ≢ 0 → NonZero P (row_at parts.now.steps.items j generator) → contains nat_cmp due.new j ≡ true) }
-    ensures below { OnOk result ((j : ℕ) → contains nat_cmp due.new j ≡ true → (contains nat_cmp due.old j ≡ true) ⊎ (j < bound)) }
+    requires state { Holds P parts.now }
+    ensures kept { OnOk result (StayDue (contains nat_cmp due.old) (contains nat_cmp due.new)) }
+    ensures added { OnOk result
+        (NamingComeDueBy P parts.now number generator bound (contains nat_cmp due.new)) }
+    ensures below { OnOk result
+        (ComeDueBelow bound (contains nat_cmp due.old) (contains nat_cmp due.new)) }
 {
     if number == 0 {
         return Ok(());
@@ -108,11 +113,13 @@ fn make_all_due<const P: u16>(
     count: u32,
     due: &mut BTreeSet<u32>,
 ) -> Result<(), AllocError>
-    requires names { AreNames P (length parts.now.complex.boundaries) parts.now.steps.items names.now }
+    requires names { AreNamesIn P parts.now names.now }
     requires inside { count ≤ length parts.now.steps.items }
-    requires state { IsState P parts.now.complex parts.now.places.items parts.now.steps.items }
-    ensures added { OnOk result ((j g : ℕ) → j < count → g < length parts.now.complex.boundaries → coefficient chain.now g ≢ 0 → NonZero P (row_at parts.now.steps.items j g) → contains nat_cmp due.new j ≡ true) }
-    ensures below { OnOk result ((j : ℕ) → contains nat_cmp due.new j ≡ true → (contains nat_cmp due.old j ≡ true) ⊎ (j < count)) }
+    requires state { Holds P parts.now }
+    ensures added { OnOk result
+        (AllNamingComeDue P parts.now chain.now count (contains nat_cmp due.new)) }
+    ensures below { OnOk result
+        (ComeDueBelow count (contains nat_cmp due.old) (contains nat_cmp due.new)) }
 {
     for (generator, _) in chain.terms() {
         make_due(parts, names, *generator, count, due)?;
@@ -120,8 +127,8 @@ fn make_all_due<const P: u16>(
     Ok(())
 }
 
-/// Settles the equation of one step, by the value at its pivot, and makes those before it due in which the pivot stands,
-/// unless its value is 0.
+/// Settles the equation of one step, by the value at its pivot, and makes those before it due in
+/// which the pivot stands, unless its value is 0.
 fn settle_one<const P: u16>(
     parts: &Parts<P>,
     field: Field<P>,
@@ -130,14 +137,16 @@ fn settle_one<const P: u16>(
     values: &mut Numbers<P>,
     due: &mut BTreeSet<u32>,
 ) -> Result<(), AllocError>
-    requires names { AreNames P (length parts.now.complex.boundaries) parts.now.steps.items names.now }
+    requires names { AreNamesIn P parts.now names.now }
     requires inside { place < length parts.now.steps.items }
-    requires state { IsState P parts.now.complex parts.now.places.items parts.now.steps.items }
-    ensures values { OnOk result ((g : ℕ) → Same P (coefficient values.new g) (coefficient values.old g + (if g == a_at parts.now.steps.items place then minus P ((nth parts.now.steps.items place).step.inverse * product (nth parts.now.steps.items place).row values.old) else 0))) }
+    requires state { Holds P parts.now }
+    ensures values { OnOk result (IsSettledAt P parts.now place values.old values.new) }
     ensures normal { OnOk result (IsNormal P (nth parts.now.steps.items place).row) }
-    ensures kept { OnOk result ((j : ℕ) → contains nat_cmp due.old j ≡ true → contains nat_cmp due.new j ≡ true) }
-    ensures added { OnOk result ((j : ℕ) → j < place → a_at parts.now.steps.items place < length parts.now.complex.boundaries → coefficient values.new (a_at parts.now.steps.items place) ≢ 0 → NonZero P (row_at parts.now.steps.items j (a_at parts.now.steps.items place)) → contains nat_cmp due.new j ≡ true) }
-    ensures below { OnOk result ((j : ℕ) → contains nat_cmp due.new j ≡ true → (contains nat_cmp due.old j ≡ true) ⊎ (j < place)) }
+    ensures kept { OnOk result (StayDue (contains nat_cmp due.old) (contains nat_cmp due.new)) }
+    ensures added { OnOk result
+        (NamingPivotComeDue P parts.now place values.new (contains nat_cmp due.new)) }
+    ensures below { OnOk result
+        (ComeDueBelow place (contains nat_cmp due.old) (contains nat_cmp due.new)) }
 {
     let step = &parts.steps[place as usize];
     let value = values.product(field, step.row());
@@ -148,7 +157,8 @@ fn settle_one<const P: u16>(
     Ok(())
 }
 
-/// Settles all equations from the start on. Only those are touched at which anything stands, the last ones first.
+/// Settles all equations from the start on. Only those are touched at which anything stands, the
+/// last ones first.
 pub fn settle<const P: u16>(
     parts: &Parts<P>,
     alloc: Global,
@@ -156,11 +166,11 @@ pub fn settle<const P: u16>(
     names: &[Generators],
     start: &Chain<P>,
 ) -> Result<Chain<P>, AllocError>
-    requires names { AreNames P (length parts.now.complex.boundaries) parts.now.steps.items names.now }
-    requires state { IsState P parts.now.complex parts.now.places.items parts.now.steps.items }
-    requires clean { (i : ℕ) → i < length parts.now.steps.items → Same P (row_at parts.now.steps.items i (a_at parts.now.steps.items i) * coefficient start.now (a_at parts.now.steps.items i)) 0 }
-    ensures others { IfOk result (λ y. (g : ℕ) → ((i : ℕ) → i < length parts.now.steps.items → g ≢ a_at parts.now.steps.items i) → Same P (coefficient y g) (coefficient start.now g)) }
-    ensures settled { IfOk result (λ y. (i : ℕ) → i < length parts.now.steps.items → IsSettled P (length parts.now.complex.boundaries) (rows parts.now.steps.items) (coefficient start.now) (coefficient y) i) }
+    requires names { AreNamesIn P parts.now names.now }
+    requires state { Holds P parts.now }
+    requires clean { IsOffPivots P parts.now start.now }
+    ensures others { IfOk result (StaysOffPivots P parts.now start.now) }
+    ensures settled { IfOk result (AreSettled P parts.now start.now) }
 {
     let count = parts.steps.len() as u32;
     let mut due = BTreeSet::new(alloc);
