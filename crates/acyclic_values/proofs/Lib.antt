@@ -9,4 +9,5 @@ pub mod Values
 pub mod Carried
 pub mod LastVertex
 pub mod Contracting
+pub mod Reducing
 pub mod Making

@@ -4,3 +4,4 @@ pub mod Contractions
 pub mod Faults
 pub mod Laws
 pub mod Contracted
+pub mod Deciding

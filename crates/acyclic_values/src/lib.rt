@@ -10,5 +10,5 @@ pub use hole::{Hole, ValueFault};
 pub use laws::{
     carried_maps_agree, carried_maps_exist, carried_maps_extend, contractions_are_acyclic,
     images_are_relative_cycles, last_vertices_contract, left_generators_are_holes, never_both,
-    some_vertex_is_left, values_are_closed_and_grow, values_are_one, values_stay_inside,
+    reductions_exist, some_vertex_is_left, values_are_closed_and_grow, values_are_one, values_stay_inside,
 };
