@@ -11,3 +11,4 @@ pub mod LastVertex
 pub mod Contracting
 pub mod Reducing
 pub mod Making
+pub mod Deciding

@@ -160,7 +160,7 @@ contracted p V log v hs two cl ck st lv alone hom =
 
 -- ---- a hole
 
-hole_same : (p : ℕ) (x : List (List Factor)) (k : ℕ) (z w u v : List Factor → ℕ) → ((q : List Factor) → Same p (u q) (z q)) → ((q : List Factor) → Same p (v q) (w q)) → IsHole p x k z w → IsHole p x k u v
+pub hole_same : (p : ℕ) (x : List (List Factor)) (k : ℕ) (z w u v : List Factor → ℕ) → ((q : List Factor) → Same p (u q) (z q)) → ((q : List Factor) → Same p (v q) (w q)) → IsHole p x k z w → IsHole p x k u v
 hole_same p x k z w u v e f h =
     let cs : List (List Factor) = cells_of x in
     let op = operator p (is_cell_of x) in
@@ -179,7 +179,7 @@ hole_same p x k z w u v e f h =
       least = h.least;
     }
 
-by_cell_same : (p : ℕ) (V : List (List Factor)) (c d : ℕ → ℕ) → ((g : ℕ) → g < length V → Same p (c g) (d g)) → (q : List Factor) → Same p (by_cell V c q) (by_cell V d q)
+pub by_cell_same : (p : ℕ) (V : List (List Factor)) (c d : ℕ → ℕ) → ((g : ℕ) → g < length V → Same p (c g) (d g)) → (q : List Factor) → Same p (by_cell V c q) (by_cell V d q)
 by_cell_same p V c d e q = ⊎_elim
     (λ l. same_trans (exact p (ap (λ b. cond b (c (number_of V q)) 0) (lt-ltb (number_of V q) (length V) l))) (same_trans (e (number_of V q) l) (exact p (sym (ap (λ b. cond b (d (number_of V q)) 0) (lt-ltb (number_of V q) (length V) l))))))
     (λ l. exact p (ap (λ b. cond b (c (number_of V q)) 0) (le-ltb (number_of V q) (length V) l) ∙ sym (ap (λ b. cond b (d (number_of V q)) 0) (le-ltb (number_of V q) (length V) l))))
