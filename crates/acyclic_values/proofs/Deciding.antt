@@ -1,10 +1,10 @@
 -- A list of cells is acyclic or has a hole: its complex has steps that leave no boundary, and what they leave decides.
-use Rattle.std.proofs.Common.{◌≡◌, ◌≢◌, ℕ, zero, suc, ◌+◌, ◌*◌, ◌%◌, ◌^◌, ◌<◌, ◌≤◌, ◌⊎◌, inl, inr, refl, sym, ap, ◌∙◌, arith, ⊎_elim, cond, eqb, eq-eqb, ne_eqb, List, [], ◌∷◌, ◌++◌, length, get_or, map, subst, Option, Some, None}
+use Rattle.std.proofs.Common.{◌≡◌, ℕ, zero, suc, ◌+◌, ◌%◌, ◌^◌, ◌<◌, ◌≤◌, ◌⊎◌, inl, inr, refl, sym, ap, ◌∙◌, arith, ⊎_elim, cond, eq-eqb, ne_eqb, List, [], ◌∷◌, ◌++◌, length, get_or, map, subst, Option, Some, None}
 use Rattle.std.proofs.lemmas.Bool.{cases_eq, cases_lt}
 use Rattle.std.proofs.lemmas.List.{get_or-map, length-map, get_or_past}
 use native.Mathlib.Nat.{mod-mod}
-use Rattle.field_mod.specs.Modular.{Same, IsField}
-use Rattle.field_mod.proofs.Modular.{same_sym, same_trans}
+use Rattle.field_mod.specs.Modular.{Same}
+use Rattle.field_mod.proofs.Modular.{same_trans}
 use Rattle.elem_cubes.specs.Cells.{Factor, dimension_of}
 use Rattle.elem_cubes.specs.Boundary.{boundary_coefficient}
 use Rattle.elem_cubes.specs.Laws.{cell_at}
@@ -17,7 +17,6 @@ use Rattle.cell_complex.specs.Numbering.{IsComplexOf, by_cell}
 use Rattle.cell_complex.proofs.Numbering.{coefficient-past}
 use Rattle.algebraic_reduction.specs.Reduction.{single, Step, IsUnpaired}
 use Rattle.algebraic_reduction.specs.Laws.{AreStepsOf, NothingLeft, homotopy_of, include_of, project_of}
-use Rattle.acyclic_values.specs.declared.hole.Hole.{Hole}
 use Rattle.acyclic_values.specs.declared.hole.Hole.TheVariants.{Empty, Class}
 use Rattle.acyclic_values.specs.Contractions.{IsCellList, LeaveVertex, IsLeftVertex, IsFirstLeft}
 use Rattle.acyclic_values.specs.Contracted.{IsBestBelow, IsLower}

@@ -1,18 +1,18 @@
 -- Every complex has steps that leave no boundary: its generators are gone through once, and each whose boundary is not 0 yet is taken
 -- with one in that boundary.
-use Rattle.std.proofs.Common.{◌≡◌, ◌≢◌, ℕ, zero, suc, ◌+◌, ◌-◌, ◌*◌, ◌<◌, ◌≤◌, ◌⊎◌, inl, inr, refl, sym, ap, arith, ⊎_elim, true, false, cond, eqb, List, [], ◌∷◌, length, get_or, subst}
-use Rattle.std.proofs.lemmas.Bool.{cases_eq, cases_lt}
+use Rattle.std.proofs.Common.{◌≡◌, ℕ, zero, suc, ◌+◌, ◌-◌, ◌*◌, ◌<◌, ◌≤◌, ◌⊎◌, inl, inr, sym, ap, arith, ⊎_elim, true, false, cond, eqb, List, [], ◌∷◌, length, subst}
+use Rattle.std.proofs.lemmas.Bool.{cases_lt}
 use Rattle.std.proofs.lemmas.List.{get_or_past}
 use Rattle.field_mod.specs.Modular.{Same, NonZero, IsField, minus}
 use Rattle.field_mod.proofs.Modular.{same_by, same_refl, same_trans, same-add, same-scale, decide_zero}
 use Rattle.elem_cubes.proofs.Modular.{exact}
 use Rattle.chains.specs.Terms.{coefficient}
-use Rattle.chains.specs.ChainComplex.{ChainComplex, IsComplex, incidence}
+use Rattle.chains.specs.ChainComplex.{incidence}
 use Rattle.algebraic_reduction.specs.Reduction.{Step, IsStep, AreSteps, IsBoundary, left, left_all}
 use Rattle.algebraic_reduction.proofs.Bridge.{grade, is_boundary}
 use Rattle.algebraic_reduction.proofs.Steps.{IsDead, dead_left, pair-dead_b, step_one}
 use Rattle.algebraic_reduction.proofs.Singles.{incidence_off}
-use Rattle.acyclic_values.specs.Deciding.{FullReduction, ReductionsExist}
+use Rattle.acyclic_values.specs.Deciding.{ReductionsExist}
 
 -- a place below n at which f is not 0, or there is none
 pub nonzero_below : (p n : ℕ) (f : ℕ → ℕ) → ((g : ℕ) → g < n → Same p (f g) 0) ⊎ ((g : ℕ) × (g < n) × NonZero p (f g))
