@@ -57,7 +57,7 @@ differ_all : (q : List Factor) (cells : List (List Factor)) → AllByRecursion (
 differ_all q [] h = tt
 differ_all q (r ∷ rs) h = (cell_cmp_ties q r ∙ ap is_eq h.0, differ_all q rs h.1)
 
-distinct_from_sorted : (cells : List (List Factor)) → IsStrictlySortedBy cell_cmp cells → IsDistinct same_cell cells
+pub distinct_from_sorted : (cells : List (List Factor)) → IsStrictlySortedBy cell_cmp cells → IsDistinct same_cell cells
 unfolding IsDistinct IsStrictlySortedBy
 distinct_from_sorted [] h = tt
 distinct_from_sorted (q ∷ qs) h = (differ_all q qs h.0, distinct_from_sorted qs h.1)
@@ -86,7 +86,7 @@ cells_are x q = sym (has_is (cells_of x) q) ∙ cells_are_faces.faces x q
 counted : (x keys : List (List Factor)) → IsDistinct same_cell keys → ((q : List Factor) → has_cell keys q ≡ is_cell_of x q) → length keys ≡ cell_count x
 counted x keys distinct h = length-from_keys same_cell_equivalence keys (flat_map closure_of x) distinct (λ q. h q ∙ sym (has-closures x q))
 
-counted_below : (x keys : List (List Factor)) → IsDistinct same_cell keys → ((q : List Factor) → has_cell keys q ≡ true → is_cell_of x q ≡ true) → length keys ≤ cell_count x
+pub counted_below : (x keys : List (List Factor)) → IsDistinct same_cell keys → ((q : List Factor) → has_cell keys q ≡ true → is_cell_of x q ≡ true) → length keys ≤ cell_count x
 counted_below x keys distinct h =
     length-le_from_is_member same_cell_equivalence keys (unique_keys same_cell (flat_map closure_of x)) distinct (λ q e. has-unique_keys (flat_map closure_of x) q ∙ has-closures x q ∙ h q e)
 

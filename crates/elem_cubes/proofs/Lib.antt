@@ -16,3 +16,4 @@ pub mod Zeros
 pub mod Listing
 pub mod Ranges
 pub mod Changing
+pub mod Covering

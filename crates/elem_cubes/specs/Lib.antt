@@ -2,6 +2,7 @@ pub mod Range
 pub mod Corners
 pub mod Cells
 pub mod Faces
+pub mod Covers
 pub mod Boundary
 pub mod Order
 pub mod Packed

@@ -6,6 +6,7 @@ ghost use Rattle.std.specs.Cmp.Rules.{comparing};
 ghost use Rattle.std.specs.Ordering.{as_partial_cmp};
 ghost use Rattle.elem_cubes.specs.Cells.{point, interval, factor_of, low, high, moved, is_wide, is_factor, is_within, is_file_factor, is_cell, lower_of, upper_of, axes_of, cell_of, full_cell, checked, checked_of, dimension_of, same_cell};
 ghost use Rattle.elem_cubes.specs.Faces.{IsFace, faces_of, cofaces_of, closure_of, is_part, is_face};
+ghost use Rattle.elem_cubes.specs.Covers.{covers_of};
 ghost use Rattle.elem_cubes.specs.Order.{cell_cmp};
 ghost use Rattle.elem_cubes.specs.Walks.{factor_at};
 ghost use Rattle.elem_cubes.specs.Packed.{OrdersUppers, cell_writes};
@@ -13,6 +14,7 @@ ghost use Rattle.elem_cubes.specs.Packed.{OrdersUppers, cell_writes};
 use crate::closure::Closure;
 use crate::cofaces::Cofaces;
 use crate::corner::Corner;
+use crate::covers::Covers;
 use crate::faces::Faces;
 use crate::packed::words;
 use crate::range::{HIGH, LOW, MAX_EMBEDDING};
@@ -167,6 +169,14 @@ impl Cell {
         Cofaces::of(*self)
     }
 
+    /// The full cubes that have this cell as a face, each once.
+    pub fn covers(&self) -> Covers
+        requires { IsTrue (list_all is_file_factor self.now) }
+        ensures { result ≡ covers_of self.now }
+    {
+        Covers::of(*self)
+    }
+
     /// All faces, the cell itself among them, each once.
     pub fn closure(&self) -> Closure
         ensures { result ≡ closure_of self.now }
@@ -249,7 +259,7 @@ impl Cell {
     }
 
     /// The lower end of the factor on the axis `i`.
-    fn low(&self, i: usize) -> i32
+    pub(crate) fn low(&self, i: usize) -> i32
         requires { i < length self.now }
         ensures low { result ≡ low (factor_at self.now i) }
         ensures factor { IsTrue (is_factor (factor_at self.now i)) }
@@ -287,7 +297,7 @@ impl Cell {
     }
 
     /// The cell with an interval on the axis `i`.
-    fn with_interval(&self, i: usize, end: i32) -> Cell
+    pub(crate) fn with_interval(&self, i: usize, end: i32) -> Cell
         requires axis { i < length self.now }
         requires fits { IsTrue (is_factor (interval end)) }
         ensures { result ≡ slice_set self.now i (interval end) }

@@ -1,6 +1,7 @@
 //! Laws of cells, their faces and their boundary: each is the contract of a function that does
 //! nothing.
 ghost use Rattle.elem_cubes.specs.Range.{RangeIsOfTheFormats};
+ghost use Rattle.elem_cubes.specs.Covers.{CoversAreAll};
 ghost use Rattle.elem_cubes.specs.Laws.{CellsHaveParts, FacesAreTransitive, FacesStayInRange, FacesAreFacets, CofacesAreAll, BoundaryIsOverCofaces, ClosuresAreFaces, FacetsAreUnits, BoundaryOfBoundaryIsZero, BoundaryAtIsBoundary, OrderIsTotal, ChangesKeepOrder};
 
 /// The numbers of the program are those that the formats state.
@@ -34,6 +35,10 @@ pub fn boundary_is_over_cofaces()
 
 pub fn closures_are_faces()
     ensures { ClosuresAreFaces }
+{}
+
+pub fn covers_are_all()
+    ensures { CoversAreAll }
 {}
 
 pub fn facets_are_units()

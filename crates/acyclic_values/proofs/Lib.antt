@@ -1,0 +1,14 @@
+pub mod Sums
+pub mod Stages
+pub mod Carrying
+pub mod Existence
+pub mod Homotopies
+pub mod Agreeing
+pub mod Cells
+pub mod Values
+pub mod Carried
+pub mod LastVertex
+pub mod Contracting
+pub mod Reducing
+pub mod Making
+pub mod Deciding
