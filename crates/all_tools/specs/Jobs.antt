@@ -25,6 +25,7 @@ pair_of r = record {
   a = second r.operands;
   modulus = r.options.modulus;
   cycles = r.options.cycles;
+  stats = r.options.stats;
 }
 
 -- a set alone

@@ -25,6 +25,7 @@ pub fn pair_job(alloc: Global, command: &Command) -> Result<PairJob, Fault>
         a,
         modulus: Modulus::of_table(command.options().modulus()),
         cycles: command.options().cycles(),
+        stats: command.options().stats(),
     })
 }
 

@@ -1,5 +1,5 @@
 -- What `homchain` is asked to do.
-use Rattle.std.specs.Prelude.{◌≡◌, ℕ, List, [], ◌∷◌}
+use Rattle.std.specs.Prelude.{◌≡◌, ℕ, List, [], ◌∷◌, false}
 use Rattle.chain_files.specs.Content.{Content}
 use Rattle.faults.specs.declared.fault.Fault.{Fault}
 use Rattle.report.specs.declared.reports.Report.TheVariants.{Chain}
@@ -24,7 +24,7 @@ IsChainText shown content text = (dimensions : List ℕ) × (cycles : CyclesOver
 
 -- how the report is printed
 abbrev pub shown_of : ChainJob → Shown
-shown_of job = record { modulus = job.modulus; cycles = job.cycles }
+shown_of job = record { modulus = job.modulus; cycles = job.cycles; stats = false }
 
 unfoldable pub chain_job : ChainJob → Job
 chain_job job = record {

@@ -1,6 +1,7 @@
 -- The texts of reports.
-use Rattle.std.specs.Prelude.{ℕ, ◌+◌, ◌==◌, if◌then◌else◌, List, [], ◌∷◌, ◌++◌, get_or, codes, decimal}
+use Rattle.std.specs.Prelude.{ℕ, ◌+◌, ◌==◌, if◌then◌else◌, List, [], ◌∷◌, ◌++◌, get_or, length, codes, decimal}
 use Rattle.faults.specs.ChainText.{cell_text, number_text, chain_text}
+use Rattle.report.specs.declared.pair.PairReport.{PairReport}
 use Rattle.report.specs.declared.reports.Report.{Report}
 use Rattle.report.specs.declared.reports.Report.TheVariants.{Pair, Chain}
 use Rattle.report.specs.declared.reports.Shown.{Shown}
@@ -45,7 +46,24 @@ group_lines write p ds cycles = group_lines_from write p 0 ds cycles
 abbrev pub shown_cycles : {G : Type 0} → Shown → List (List (List (G × ℕ))) → List (List (List (G × ℕ)))
 shown_cycles shown cycles = if shown.cycles then cycles else []
 
+-- the line on a count of this name
+abbrev pub count_line : List ℕ → ℕ → List ℕ
+count_line name count = name ++ codes " " ++ decimal count ++ codes "\n"
+
+-- the lines on the relative cells of a pair, the members that were moved, and the cells that were
+-- left
+abbrev pub count_lines : PairReport → List ℕ
+count_lines pair = count_line (codes "cells") pair.cells
+    ++ count_line (codes "grown") (length pair.grown)
+    ++ count_line (codes "left") (length pair.left)
+
+-- those that are printed
+abbrev pub shown_counts : Shown → PairReport → List ℕ
+shown_counts shown pair = if shown.stats then count_lines pair else []
+
 -- the text of a report
 abbrev pub report_text : Report → Shown → List ℕ
-report_text (Pair pair) shown = group_lines cell_text shown.modulus pair.dimensions (shown_cycles shown pair.cycles)
+report_text (Pair pair) shown =
+    group_lines cell_text shown.modulus pair.dimensions (shown_cycles shown pair.cycles)
+    ++ shown_counts shown pair
 report_text (Chain dimensions cycles) shown = group_lines number_text shown.modulus dimensions (shown_cycles shown cycles)

@@ -1,8 +1,8 @@
-//! The lines on homology groups and on the cycles of their bases.
+//! The lines on homology groups, on the cycles of their bases, and on counts.
 ghost use Rattle.std.specs.Prelude.{◌≡◌, ◌++◌, OnOk, [], get_or};
-ghost use Rattle.report.specs.ReportText.{group_text, group_line, cycle_line, cycle_lines, degree_lines, group_lines, shown_cycles};
+ghost use Rattle.report.specs.ReportText.{group_text, group_line, cycle_line, cycle_lines, degree_lines, group_lines, shown_cycles, count_line, count_lines};
 
-use crate::{Cycles, Shown};
+use crate::{Cycles, PairReport, Shown};
 use faults::{Generator, Terms, put_chain};
 use itoa::Buffer;
 use std::alloc::AllocError as NoMemory;
@@ -115,5 +115,25 @@ fn put_cycle_line<G: Generator>(
     to.extend_from_slice(buffer.format(number).as_bytes())?;
     to.extend_from_slice(b" = ")?;
     put_chain(to, cycle)?;
+    to.extend_from_slice(b"\n")
+}
+
+/// Adds the lines on the counts of a pair.
+pub(crate) fn put_counts(to: &mut Vec<u8>, pair: &PairReport) -> Result<(), NoMemory>
+    ensures { OnOk result (to.new.items ≡ to.old.items ++ count_lines pair.now) }
+{
+    put_count(to, b"cells", pair.cells as usize)?;
+    put_count(to, b"grown", pair.grown.len())?;
+    put_count(to, b"left", pair.left.len())
+}
+
+// Adds the line on one count.
+fn put_count(to: &mut Vec<u8>, name: &[u8], count: usize) -> Result<(), NoMemory>
+    ensures { OnOk result (to.new.items ≡ to.old.items ++ count_line name.now count) }
+{
+    let mut buffer = Buffer::new();
+    to.extend_from_slice(name)?;
+    to.extend_from_slice(b" ")?;
+    to.extend_from_slice(buffer.format(count).as_bytes())?;
     to.extend_from_slice(b"\n")
 }

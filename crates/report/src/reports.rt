@@ -2,7 +2,7 @@
 ghost use Rattle.std.specs.Prelude.{◌≡◌, IfOk};
 ghost use Rattle.report.specs.ReportText.{report_text};
 
-use crate::lines::put_groups;
+use crate::lines::{put_counts, put_groups};
 use crate::{Cycles, Dimensions, PairReport};
 use std::alloc::{AllocError as NoMemory, Global};
 
@@ -27,6 +27,8 @@ pub struct Shown {
     pub modulus: u16,
     /// Whether the cycles are printed.
     pub cycles: bool,
+    /// Whether the counts of a pair are printed.
+    pub stats: bool,
 }
 
 /// The text of a report.
@@ -37,6 +39,9 @@ pub fn text(alloc: Global, report: &Report, shown: &Shown) -> Result<Vec<u8>, No
     match report {
         Report::Pair(pair) => {
             put_groups(&mut text, shown, pair.dimensions.as_slice(), &pair.cycles)?;
+            if shown.stats {
+                put_counts(&mut text, pair)?;
+            }
         }
         Report::Chain { dimensions, cycles } => {
             put_groups(&mut text, shown, dimensions.as_slice(), cycles)?;

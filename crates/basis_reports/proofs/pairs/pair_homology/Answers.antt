@@ -34,3 +34,13 @@ returns-clause-right g c =
     left_out c.args.shown (IsRightPair p c.args.most x a c.in_ok-dimensions-2.dimensions) c.of-cycles.result c.if-shown.false
     (right_pair p x a cells c.in_ok-cells.field-0.log.complex c.args.field.listed c.in_ok-cells.ensures.complex c.len-count.ensures.sorted c.args.most
     c.in_ok-dimensions-2.dimensions c.in_ok-dimensions-2.ensures.bases)
+
+pub returns-then-shown-clause-counts : goal.returns-then-shown-clause-counts
+returns-then-shown-clause-counts g c =
+    let r = c.in_ok-cells.ensures in
+    record { relative = (c.in_ok-cells.field-0.cells, r.complex.listing, c.len-count.ensures.count); growth = r.grown; collapse = r.left; none_free = r.none_free; once = r.sorted }
+
+pub returns-clause-counts : goal.returns-clause-counts
+returns-clause-counts g c =
+    let r = c.in_ok-cells.ensures in
+    record { relative = (c.in_ok-cells.field-0.cells, r.complex.listing, c.len-count.ensures.count); growth = r.grown; collapse = r.left; none_free = r.none_free; once = r.sorted }
