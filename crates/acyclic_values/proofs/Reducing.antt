@@ -42,7 +42,6 @@ module _ (p n : ℕ) (degree : ℕ → ℕ) (field : IsField p) where
       entry : Same p (D h g + minus p (s.inverse * D h s.a * D s.b g)) 0
       entry = same_trans (same_by p 0 0 _ (D h g + (p - 1) * s.inverse * D s.b g * D h s.a) (omega arith)) (same_trans (same-add (none g) (same-scale ((p - 1) * s.inverse * D s.b g) (none s.a))) (same_by p 0 0 _ _ (omega arith)))
 
-
   one_more : (D : ℕ → ℕ → ℕ) (i : ℕ) → ((h g : ℕ) → h < i → Same p (D h g) 0) → ((g : ℕ) → Same p (D i g) 0) → (h g : ℕ) → h < i + 1 → Same p (D h g) 0
   one_more D i rows row h g l = ⊎_elim (λ q. rows h g q) (λ q. let k : i ≡ h = omega arith in subst (λ (x : ℕ). Same p (D x g) 0) k (row g)) (cases_lt h i)
 

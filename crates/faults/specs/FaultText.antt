@@ -3,14 +3,18 @@ use Rattle.std.specs.Prelude.{ℕ, List, ◌++◌, codes, decimal}
 use Rattle.faults.specs.declared.cause.Cause.{Cause}
 use Rattle.faults.specs.declared.cause.Cause.TheVariants.{BadByte, BadNumber, NotClosed, MixedDimension, DimensionTooLarge, CoordinateTooLarge, NotElementary, NotFull, UnknownGenerator, RepeatedGenerator}
 use Rattle.faults.specs.declared.fault.Fault.{Fault}
-use Rattle.faults.specs.declared.fault.Fault.TheVariants.{NoTool, NotAForm, CannotRead, BadText, NotComplex, Dimension, Limit, CannotWriteOut, OutOfMemory}
+use Rattle.faults.specs.declared.fault.Fault.TheVariants.{NoTool, NotAForm, CannotRead, BadText, NotComplex, Dimension, Limit, Undefined, LeavesRange, LeavesSubset, EmptyValue, NotAcyclic, CannotWriteOut, OutOfMemory}
+use Rattle.elem_cubes.specs.Cells.{Factor, lower_of}
+use Rattle.corner_texts.specs.CornerText.{corner_text}
+use Rattle.faults.specs.ChainText.{cell_text, chain_text}
 use Rattle.faults.specs.declared.limit_name.LimitName.{LimitName}
-use Rattle.faults.specs.declared.limit_name.LimitName.TheVariants.{FileBytes, Cubes, Cells, Generators, Terms, Coordinates}
+use Rattle.faults.specs.declared.limit_name.LimitName.TheVariants.{FileBytes, Cubes, MapPairs, Cells, Generators, Terms, Coordinates}
 
 -- the name of a count that has a limit
 abbrev pub limit_name : LimitName → List ℕ
 limit_name FileBytes = codes "file-bytes"
 limit_name Cubes = codes "cubes"
+limit_name MapPairs = codes "map-pairs"
 limit_name Cells = codes "cells"
 limit_name Generators = codes "generators"
 limit_name Terms = codes "terms"
@@ -29,6 +33,14 @@ cause_text NotFull = codes "not a full cube"
 cause_text UnknownGenerator = codes "unknown generator"
 cause_text RepeatedGenerator = codes "repeated generator"
 
+-- a full cube by its lower corner
+abbrev pub cube_text : List Factor → List ℕ
+cube_text q = corner_text (lower_of q)
+
+-- a value of a map, at a cube
+abbrev pub pair_text : List Factor → List Factor → List ℕ
+pair_text q v = cube_text q ++ codes " -> " ++ cube_text v
+
 -- the line on a fault
 abbrev pub fault_text : Fault → List ℕ
 fault_text NoTool = codes "error: words: no tool of that name\n"
@@ -39,5 +51,11 @@ fault_text (NotComplex name degree generator value at) = codes "error: " ++ name
     ++ codes ": # " ++ decimal generator ++ codes ": boundary of boundary has " ++ decimal value ++ codes " * " ++ decimal at ++ codes "\n"
 fault_text (Dimension name found before) = codes "error: " ++ name ++ codes ": dimension " ++ decimal found ++ codes ", but " ++ decimal before ++ codes " before\n"
 fault_text (Limit count number) = codes "error: limit: " ++ limit_name count ++ codes ": " ++ decimal number ++ codes "\n"
+fault_text (Undefined cube) = codes "error: map: no value at " ++ cube_text cube ++ codes "\n"
+fault_text (LeavesRange cube value) = codes "error: map: " ++ pair_text cube value ++ codes " leaves the range\n"
+fault_text (LeavesSubset cube value) = codes "error: map: " ++ pair_text cube value ++ codes " leaves the range's subset\n"
+fault_text (EmptyValue cell) = codes "error: map: value at " ++ cell_text cell ++ codes " is empty\n"
+fault_text (NotAcyclic cell degree cycle cocycle) = codes "error: map: value at " ++ cell_text cell ++ codes " is not acyclic in degree " ++ decimal degree
+    ++ codes ": cycle " ++ chain_text cell_text cycle ++ codes ", cocycle " ++ chain_text cell_text cocycle ++ codes "\n"
 fault_text CannotWriteOut = codes "error: cannot write standard output\n"
 fault_text OutOfMemory = codes "error: out of memory\n"

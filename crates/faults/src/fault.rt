@@ -2,7 +2,9 @@
 ghost use Rattle.std.specs.Prelude.{◌≡◌, ◌++◌, IfOk, OnOk};
 ghost use Rattle.faults.specs.FaultText.{fault_text};
 
-use crate::{Cause, LimitName, Name};
+use crate::map_lines::{empty_value_text, leaves_text, not_acyclic_text, undefined_text};
+use crate::{Cause, CellChain, LimitName, Name};
+use elem_cubes::Cell;
 use itoa::{Buffer, Integer};
 use std::alloc::{AllocError as NoMemory, Global};
 use thiserror::Error;
@@ -53,6 +55,37 @@ pub enum Fault {
         count: LimitName,
         number: u64,
     },
+    /// A map has no value at this full cube of its domain.
+    #[error("map: no value at a cube")]
+    Undefined {
+        cube: Cell,
+    },
+    /// This value of a map at a full cube is not in the range.
+    #[error("map: a value leaves the range")]
+    LeavesRange {
+        cube: Cell,
+        value: Cell,
+    },
+    /// This value of a map at a full cube of the domain's subset is not in the range's subset.
+    #[error("map: a value leaves the range's subset")]
+    LeavesSubset {
+        cube: Cell,
+        value: Cell,
+    },
+    /// The value of a map at this cell is empty.
+    #[error("map: a value is empty")]
+    EmptyValue {
+        cell: Cell,
+    },
+    /// The value of a map at this cell is not acyclic, in this degree first: in it there are a cycle
+    /// and a cocycle whose product is 1. They are one such pair of many.
+    #[error("map: a value is not acyclic in degree {degree}")]
+    NotAcyclic {
+        cell: Cell,
+        degree: u8,
+        cycle: CellChain,
+        cocycle: CellChain,
+    },
     /// A write to standard output failed.
     #[error("cannot write standard output")]
     CannotWriteOut,
@@ -93,6 +126,20 @@ pub fn fault_text(alloc: Global, fault: &Fault) -> Result<Vec<u8>, NoMemory>
             before,
         } => dimension_text(alloc, name, *found, *before),
         Fault::Limit { count, number } => limit_text(alloc, *count, *number),
+        Fault::Undefined { cube } => undefined_text(alloc, cube),
+        Fault::LeavesRange { cube, value } => {
+            leaves_text(alloc, cube, value, b" leaves the range\n")
+        }
+        Fault::LeavesSubset { cube, value } => {
+            leaves_text(alloc, cube, value, b" leaves the range's subset\n")
+        }
+        Fault::EmptyValue { cell } => empty_value_text(alloc, cell),
+        Fault::NotAcyclic {
+            cell,
+            degree,
+            cycle,
+            cocycle,
+        } => not_acyclic_text(alloc, cell, *degree, cycle, cocycle),
         Fault::CannotWriteOut => Vec::from_slice(alloc, b"error: cannot write standard output\n"),
         Fault::OutOfMemory => Vec::from_slice(alloc, b"error: out of memory\n"),
     }
@@ -109,7 +156,11 @@ fn frame(alloc: Global, before: &[u8], name: &Name, after: &[u8]) -> Result<Vec<
 }
 
 // Adds a text and a number.
-fn put_after<I: Integer>(to: &mut Vec<u8>, before: &[u8], number: I) -> Result<(), NoMemory>
+pub(crate) fn put_after<I: Integer>(
+    to: &mut Vec<u8>,
+    before: &[u8],
+    number: I,
+) -> Result<(), NoMemory>
     ensures { OnOk result (to.new.items ≡ to.old.items ++ (before.now ++ I.text number)) }
 {
     let mut buffer = Buffer::new();

@@ -7,6 +7,7 @@ mod chain;
 mod fault;
 mod generator;
 mod limit_name;
+mod map_lines;
 mod name;
 mod status;
 mod terms;

@@ -11,6 +11,8 @@ pub enum LimitName {
     FileBytes,
     /// The distinct members of one set file, or of the result of a set tool.
     Cubes,
+    /// The distinct pairs of a cube and a value of one map file.
+    MapPairs,
     /// The cells of a pair.
     Cells,
     /// The generators of one chain file.
@@ -29,6 +31,7 @@ impl LimitName {
         match self {
             LimitName::FileBytes => "file-bytes",
             LimitName::Cubes => "cubes",
+            LimitName::MapPairs => "map-pairs",
             LimitName::Cells => "cells",
             LimitName::Generators => "generators",
             LimitName::Terms => "terms",

@@ -5,7 +5,7 @@ use elem_cubes::Cell;
 use std::marker::Model;
 
 /// The terms of a chain: generators with coefficients, in the order in which they are printed.
-#[derive(Drop)]
+#[derive(Debug, Drop)]
 pub struct Terms<G> {
     terms: Vec<(G, u16)>,
 }

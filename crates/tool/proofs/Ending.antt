@@ -4,7 +4,7 @@ use Rattle.outside.specs.Disk.{Disk}
 use Rattle.outside.specs.Seen.{Seen}
 use Rattle.outside.specs.Told.{Gains}
 use Rattle.faults.specs.declared.fault.Fault.{Fault}
-use Rattle.faults.specs.declared.fault.Fault.TheVariants.{NoTool, NotAForm, CannotRead, BadText, NotComplex, Dimension, Limit, CannotWriteOut, OutOfMemory}
+use Rattle.faults.specs.declared.fault.Fault.TheVariants.{NoTool, NotAForm, CannotRead, BadText, NotComplex, Dimension, Limit, Undefined, LeavesRange, LeavesSubset, EmptyValue, NotAcyclic, CannotWriteOut, OutOfMemory}
 use Rattle.faults.specs.declared.status.Status.{Status}
 use Rattle.faults.specs.declared.status.Status.TheVariants as statuses
 use Rattle.faults.specs.Statuses.{status_of, without_chain}
@@ -14,7 +14,20 @@ use Rattle.loading.specs.Jobs.{Job, IsJudged, HasOneJudgement, IsRefusedWith, Is
 use Rattle.tool.specs.Ends.{ReadFailed, EndsAs}
 
 status_without_chain : (fault : Fault) → status_of (without_chain fault) ≡ status_of fault
-status_without_chain fault = refl
+status_without_chain (NotAcyclic cell degree cycle cocycle) = refl
+status_without_chain NoTool = refl
+status_without_chain (NotAForm tool) = refl
+status_without_chain (CannotRead name) = refl
+status_without_chain (BadText name place cause) = refl
+status_without_chain (NotComplex name degree generator value at) = refl
+status_without_chain (Dimension name found earlier) = refl
+status_without_chain (Limit count number) = refl
+status_without_chain (Undefined cube) = refl
+status_without_chain (LeavesRange cube value) = refl
+status_without_chain (LeavesSubset cube value) = refl
+status_without_chain (EmptyValue cell) = refl
+status_without_chain CannotWriteOut = refl
+status_without_chain OutOfMemory = refl
 
 one_status : (f g : Fault) → without_chain f ≡ without_chain g → status_of f ≡ status_of g
 one_status f g e = sym (status_without_chain f) ∙ ap status_of e ∙ status_without_chain g
@@ -117,6 +130,11 @@ module _ (job : Job) (once : HasOneJudgement job) (old new : Seen) where
   caused_so (NotComplex name degree generator value at) c e = cc
   caused_so (Dimension name found earlier) c e = cc
   caused_so (Limit count number) c e = cc
+  caused_so (Undefined cube) c e = c
+  caused_so (LeavesRange cube value) c e = c
+  caused_so (LeavesSubset cube value) c e = c
+  caused_so (EmptyValue cell) c e = c
+  caused_so (NotAcyclic cell degree cycle cocycle) c e = c
   caused_so CannotWriteOut c e = c
   caused_so OutOfMemory c e = c
 
