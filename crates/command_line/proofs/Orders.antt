@@ -3,7 +3,7 @@ use Rattle.std.proofs.Common.{◌≡◌, ℕ, Bool, true, false, cond, ◌||◌,
 use Rattle.std.specs.Prelude.{nat_le, length}
 use Rattle.std.specs.Option.{option_map, option_and_then}
 use Rattle.command_line.specs.declared.choice.Choice.{Choice}
-use Rattle.command_line.specs.declared.choice.Choice.TheVariants.{Modulus, Cycles}
+use Rattle.command_line.specs.declared.choice.Choice.TheVariants.{Modulus, Cycles, Stats}
 use Rattle.command_line.specs.declared.choice.Setting.{Setting}
 use Rattle.command_line.specs.declared.word.Next.TheVariants.{Anything}
 use Rattle.command_line.specs.Forms.{Row, Spoken, form_named, same_choice, is_set, are_once, words_read}
@@ -52,15 +52,25 @@ once_swap false true a b o e = cc
 choice_swap : (c d : Choice) → same_choice c d ≡ same_choice d c
 choice_swap Modulus Modulus = refl
 choice_swap Modulus Cycles = refl
+choice_swap Modulus Stats = refl
 choice_swap Cycles Modulus = refl
 choice_swap Cycles Cycles = refl
+choice_swap Cycles Stats = refl
+choice_swap Stats Modulus = refl
+choice_swap Stats Cycles = refl
+choice_swap Stats Stats = refl
 
 modulus_swap : (c d : Choice) (x y : Option (List ℕ)) (m : Option ℕ) (a : Bool) (rest : Bool) → (not (same_choice d c || a) && rest) ≡ true
     → modulus_of c x (modulus_of d y m) ≡ modulus_of d y (modulus_of c x m)
 modulus_swap Modulus Modulus x y m a rest e = cc
 modulus_swap Modulus Cycles x y m a rest e = refl
+modulus_swap Modulus Stats x y m a rest e = refl
 modulus_swap Cycles Modulus x y m a rest e = refl
 modulus_swap Cycles Cycles x y m a rest e = refl
+modulus_swap Cycles Stats x y m a rest e = refl
+modulus_swap Stats Modulus x y m a rest e = refl
+modulus_swap Stats Cycles x y m a rest e = refl
+modulus_swap Stats Stats x y m a rest e = refl
 
 same_swap : (s t : Setting) (v : List Setting) → SaySame (s ∷ t ∷ v) (t ∷ s ∷ v)
 same_swap s t v = record {
@@ -87,7 +97,9 @@ module _ (form : Row) (o : List (List ℕ)) (a b : List Setting) (p : SaySame a 
 
   chosen_same : are_once a ≡ true → chosen_of form (of a) ≡ chosen_of form (of b)
   chosen_same e = ap (option_map (with_options form.tool o))
-      (ap (λ cycles. option_map (with_modulus cycles) (modulus_in a)) (p.set Cycles) ∙ ap (option_map (with_modulus (is_set Cycles b))) (p.modulus e))
+      (ap (λ cycles. option_map (with_modulus cycles (is_set Stats a)) (modulus_in a)) (p.set Cycles)
+      ∙ ap (λ stats. option_map (with_modulus (is_set Cycles b) stats) (modulus_in a)) (p.set Stats)
+      ∙ ap (option_map (with_modulus (is_set Cycles b) (is_set Stats b))) (p.modulus e))
 
   once_same : (x y : Bool) → are_once a ≡ x → x ≡ y → option_and_then (chosen_of form) (cond x (Some (of a)) None) ≡ option_and_then (chosen_of form) (cond y (Some (of b)) None)
   once_same true true e f = chosen_same e

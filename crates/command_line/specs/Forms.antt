@@ -8,7 +8,7 @@ use Rattle.std.specs.declared.string.String.{String}
 use Rattle.command_line.specs.declared.form.ToolName.{ToolName}
 use Rattle.command_line.specs.declared.form.ToolName.TheVariants as tools
 use Rattle.command_line.specs.declared.choice.Choice.{Choice}
-use Rattle.command_line.specs.declared.choice.Choice.TheVariants.{Modulus, Cycles}
+use Rattle.command_line.specs.declared.choice.Choice.TheVariants.{Modulus, Cycles, Stats}
 use Rattle.command_line.specs.declared.word.Next.{Next}
 use Rattle.command_line.specs.declared.word.Next.TheVariants.{Anything, ValueOf, OperandsAlone}
 use Rattle.command_line.specs.declared.word.Said.{Said}
@@ -34,9 +34,13 @@ row tool name fewest most options =
 abbrev pub of_homology : List Choice
 of_homology = Modulus ∷ Cycles ∷ []
 
+-- the options of the tool on pairs of sets
+abbrev pub of_pairs : List Choice
+of_pairs = Modulus ∷ Cycles ∷ Stats ∷ []
+
 abbrev pub forms : List Row
 forms =
-    row tools.Homcubes (codes "homcubes") 1 2 of_homology
+    row tools.Homcubes (codes "homcubes") 1 2 of_pairs
     ∷ row tools.Cubunion (codes "cubunion") 2 2 []
     ∷ row tools.Cubinter (codes "cubinter") 2 2 []
     ∷ row tools.Cubnbhd (codes "cubnbhd") 1 1 []
@@ -48,10 +52,12 @@ forms =
 abbrev pub option_name : Choice → List ℕ
 option_name Modulus = codes "--mod"
 option_name Cycles = codes "--cycles"
+option_name Stats = codes "--stats"
 
 abbrev pub takes_value : Choice → Bool
 takes_value Modulus = true
 takes_value Cycles = false
+takes_value Stats = false
 
 -- the first entry of a list that has this name
 abbrev pub named : {A : Type 0} → (A → List ℕ) → List A → List ℕ → Option A
@@ -162,6 +168,7 @@ words_read form next (word ∷ words) =
 abbrev pub same_choice : Choice → Choice → Bool
 same_choice Modulus Modulus = true
 same_choice Cycles Cycles = true
+same_choice Stats Stats = true
 same_choice choice other = false
 
 abbrev pub is_set : Choice → List Setting → Bool

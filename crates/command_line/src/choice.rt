@@ -11,6 +11,8 @@ pub enum Choice {
     Modulus,
     /// That the cycles are printed.
     Cycles,
+    /// That the counts of cells and moved cubes are printed.
+    Stats,
 }
 
 /// An option as it stands among the words, with its value where it takes one.
@@ -28,6 +30,7 @@ impl Choice {
         match self {
             Choice::Modulus => "--mod",
             Choice::Cycles => "--cycles",
+            Choice::Stats => "--stats",
         }
     }
 
@@ -38,6 +41,7 @@ impl Choice {
         match self {
             Choice::Modulus => true,
             Choice::Cycles => false,
+            Choice::Stats => false,
         }
     }
 
@@ -48,6 +52,7 @@ impl Choice {
         match (self, other) {
             (Choice::Modulus, Choice::Modulus) => true,
             (Choice::Cycles, Choice::Cycles) => true,
+            (Choice::Stats, Choice::Stats) => true,
             _ => false,
         }
     }

@@ -41,13 +41,16 @@ impl Model for Form {
 // The options of the tools that compute homology.
 const OF_HOMOLOGY: [Choice; 2] = [Choice::Modulus, Choice::Cycles];
 
+// The options of the tool on pairs of sets.
+const OF_PAIRS: [Choice; 3] = [Choice::Modulus, Choice::Cycles, Choice::Stats];
+
 impl Form {
     /// The form of the tool of this name.
     pub fn named(word: &str) -> Option<Form>
         ensures { result ≡ form_named word.now }
     {
         match word {
-            "homcubes" => Some(Form::of(ToolName::Homcubes, "homcubes", 1, 2, &OF_HOMOLOGY)),
+            "homcubes" => Some(Form::of(ToolName::Homcubes, "homcubes", 1, 2, &OF_PAIRS)),
             "cubunion" => Some(Form::of(ToolName::Cubunion, "cubunion", 2, 2, &[])),
             "cubinter" => Some(Form::of(ToolName::Cubinter, "cubinter", 2, 2, &[])),
             "cubnbhd" => Some(Form::of(ToolName::Cubnbhd, "cubnbhd", 1, 1, &[])),

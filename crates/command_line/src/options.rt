@@ -13,6 +13,7 @@ use std::marker::Model;
 pub struct Options {
     modulus: u16,
     cycles: bool,
+    stats: bool,
 }
 
 impl Model for Options {
@@ -21,7 +22,7 @@ impl Model for Options {
 
     ghost Value = { Chosen };
 
-    ghost view = { λ o. record { modulus = o.modulus; cycles = o.cycles } };
+    ghost view = { λ o. record { modulus = o.modulus; cycles = o.cycles; stats = o.stats } };
 
     ghost invariant = { λ o. IsModulus o.modulus };
 }
@@ -33,7 +34,12 @@ impl Options {
     {
         let modulus = modulus_in(settings)?;
         let cycles = is_set(Choice::Cycles, settings);
-        Some(Options { modulus, cycles })
+        let stats = is_set(Choice::Stats, settings);
+        Some(Options {
+            modulus,
+            cycles,
+            stats,
+        })
     }
 
     /// The modulus of the coefficients.
@@ -50,6 +56,13 @@ impl Options {
     {
         self.cycles
     }
+
+    /// Whether the counts are printed.
+    pub fn stats(&self) -> bool
+        ensures { result ≡ self.now.stats }
+    {
+        self.stats
+    }
 }
 
 // The modulus that the options set; without one it is 2.
@@ -65,7 +78,7 @@ fn modulus_in(settings: &[Setting]) -> Option<u16>
                     None => None,
                 };
             }
-            Choice::Cycles => {}
+            Choice::Cycles | Choice::Stats => {}
         }
     }
     Some(2)

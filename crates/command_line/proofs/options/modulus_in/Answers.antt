@@ -1,6 +1,6 @@
-use Rattle.std.proofs.Common.{sym, ap, ◌∙◌, decimal}
+use Rattle.std.proofs.Common.{sym, ap, ◌∙◌, ⊎_elim, decimal}
 use Rattle.field_mod.specs.Moduli.{moduli}
-use Rattle.command_line.specs.declared.choice.Choice.TheVariants.{Modulus, Cycles}
+use Rattle.command_line.specs.declared.choice.Choice.TheVariants.{Modulus, Cycles, Stats}
 use Rattle.command_line.specs.Forms.{named}
 use Rattle.command_line.specs.Words.{modulus_named}
 use Rattle.command_line.proofs.Tables.{modulus_at}
@@ -19,5 +19,7 @@ returns-in-None-clause-value c =
     ∙ sym (modulus_at c.args.settings.now c.loop-setting.setting-index c.setting-item.result Modulus c.loop-setting-test.true c.setting-item.is c.in-Modulus.is) ∙ c.loop-setting.invariant
 
 pub loop-setting-preserved : goal.loop-setting-preserved
-loop-setting-preserved c =
-    sym (modulus_at c.args.settings.now c.loop-setting.setting-index c.setting-item.result Cycles c.loop-setting-test.true c.setting-item.is c.in-Cycles.is) ∙ c.loop-setting.invariant
+loop-setting-preserved c = ⊎_elim
+    (λ is. sym (modulus_at c.args.settings.now c.loop-setting.setting-index c.setting-item.result Cycles c.loop-setting-test.true c.setting-item.is is) ∙ c.loop-setting.invariant)
+    (λ is. sym (modulus_at c.args.settings.now c.loop-setting.setting-index c.setting-item.result Stats c.loop-setting-test.true c.setting-item.is is) ∙ c.loop-setting.invariant)
+    c.in-Cycles.is
