@@ -1,12 +1,12 @@
 -- Options that change places.
-use Rattle.std.proofs.Common.{◌≡◌, ℕ, Bool, true, false, cond, ◌||◌, ◌&&◌, not, List, [], ◌∷◌, ◌++◌, Option, None, Some, refl, sym, ap, ◌∙◌}
+use Rattle.std.proofs.Common.{◌≡◌, ℕ, suc, Bool, true, false, cond, ◌||◌, ◌&&◌, not, List, [], ◌∷◌, ◌++◌, Option, None, Some, refl, sym, ap, ◌∙◌}
 use Rattle.std.specs.Prelude.{nat_le, length}
 use Rattle.std.specs.Option.{option_map, option_and_then}
 use Rattle.command_line.specs.declared.choice.Choice.{Choice}
-use Rattle.command_line.specs.declared.choice.Choice.TheVariants.{Modulus, Cycles, Stats}
+use Rattle.command_line.specs.declared.choice.Choice.TheVariants.{Modulus, Cycles, Stats, SetAlone}
 use Rattle.command_line.specs.declared.choice.Setting.{Setting}
 use Rattle.command_line.specs.declared.word.Next.TheVariants.{Anything}
-use Rattle.command_line.specs.Forms.{Row, Spoken, form_named, same_choice, is_set, are_once, words_read}
+use Rattle.command_line.specs.Forms.{Row, Spoken, form_named, stands_alone, same_choice, is_set, are_once, has_alone, agree, are_operands, words_read}
 use Rattle.command_line.specs.Words.{modulus_of, modulus_in, with_modulus, with_options, chosen_of, request_of, formed, command_with, command_of}
 use Rattle.command_line.specs.Laws.{AreWhole}
 use Rattle.command_line.proofs.Wholes.{onto, behind_whole}
@@ -15,13 +15,15 @@ use Rattle.command_line.proofs.Wholes.{onto, behind_whole}
 record SaySame (a b : List Setting) : Type 0 where
   set : (choice : Choice) → is_set choice a ≡ is_set choice b
   once : are_once a ≡ are_once b
+  alone : has_alone a ≡ has_alone b
+  many : length a ≡ length b
   modulus : are_once a ≡ true → modulus_in a ≡ modulus_in b
 
 same_refl : (a : List Setting) → SaySame a a
-same_refl a = record { set = λ choice. refl; once = refl; modulus = λ e. refl }
+same_refl a = record { set = λ choice. refl; once = refl; alone = refl; many = refl; modulus = λ e. refl }
 
 same_trans : (a b c : List Setting) → SaySame a b → SaySame b c → SaySame a c
-same_trans a b c p q = record { set = λ choice. p.set choice ∙ q.set choice; once = p.once ∙ q.once; modulus = λ e. p.modulus e ∙ q.modulus (sym p.once ∙ e) }
+same_trans a b c p q = record { set = λ choice. p.set choice ∙ q.set choice; once = p.once ∙ q.once; alone = p.alone ∙ q.alone; many = p.many ∙ q.many; modulus = λ e. p.modulus e ∙ q.modulus (sym p.once ∙ e) }
 
 and_right : (x y : Bool) → (x && y) ≡ true → y ≡ true
 and_right true y e = e
@@ -31,6 +33,8 @@ same_cons : (s : Setting) (a b : List Setting) → SaySame a b → SaySame (s �
 same_cons s a b p = record {
   set = λ choice. ap (λ x. same_choice s.choice choice || x) (p.set choice);
   once = ap (λ x. not x && are_once a) (p.set s.choice) ∙ ap (λ x. not (is_set s.choice b) && x) p.once;
+  alone = ap (λ x. stands_alone s.choice || x) p.alone;
+  many = ap suc p.many;
   modulus = λ e. ap (modulus_of s.choice s.value) (p.modulus (and_right (not (is_set s.choice a)) (are_once a) e));
 }
 
@@ -59,23 +63,26 @@ choice_swap Cycles Stats = refl
 choice_swap Stats Modulus = refl
 choice_swap Stats Cycles = refl
 choice_swap Stats Stats = refl
+choice_swap SetAlone Modulus = refl
+choice_swap SetAlone Cycles = refl
+choice_swap SetAlone Stats = refl
+choice_swap SetAlone SetAlone = refl
+choice_swap Modulus SetAlone = refl
+choice_swap Cycles SetAlone = refl
+choice_swap Stats SetAlone = refl
 
 modulus_swap : (c d : Choice) (x y : Option (List ℕ)) (m : Option ℕ) (a : Bool) (rest : Bool) → (not (same_choice d c || a) && rest) ≡ true
     → modulus_of c x (modulus_of d y m) ≡ modulus_of d y (modulus_of c x m)
 modulus_swap Modulus Modulus x y m a rest e = cc
-modulus_swap Modulus Cycles x y m a rest e = refl
-modulus_swap Modulus Stats x y m a rest e = refl
-modulus_swap Cycles Modulus x y m a rest e = refl
-modulus_swap Cycles Cycles x y m a rest e = refl
-modulus_swap Cycles Stats x y m a rest e = refl
-modulus_swap Stats Modulus x y m a rest e = refl
-modulus_swap Stats Cycles x y m a rest e = refl
-modulus_swap Stats Stats x y m a rest e = refl
+modulus_swap Modulus d x y m a rest e = refl
+modulus_swap c d x y m a rest e = refl
 
 same_swap : (s t : Setting) (v : List Setting) → SaySame (s ∷ t ∷ v) (t ∷ s ∷ v)
 same_swap s t v = record {
   set = λ choice. or_swap (same_choice s.choice choice) (same_choice t.choice choice) (is_set choice v);
   once = once_swap (same_choice t.choice s.choice) (same_choice s.choice t.choice) (is_set s.choice v) (is_set t.choice v) (are_once v) (choice_swap t.choice s.choice);
+  alone = or_swap (stands_alone s.choice) (stands_alone t.choice) (has_alone v);
+  many = refl;
   modulus = λ e. modulus_swap s.choice t.choice s.value t.value (modulus_in v) (is_set s.choice v) (not (is_set t.choice v) && are_once v) e;
 }
 
@@ -97,9 +104,10 @@ module _ (form : Row) (o : List (List ℕ)) (a b : List Setting) (p : SaySame a 
 
   chosen_same : are_once a ≡ true → chosen_of form (of a) ≡ chosen_of form (of b)
   chosen_same e = ap (option_map (with_options form.tool o))
-      (ap (λ cycles. option_map (with_modulus cycles (is_set Stats a)) (modulus_in a)) (p.set Cycles)
-      ∙ ap (λ stats. option_map (with_modulus (is_set Cycles b) stats) (modulus_in a)) (p.set Stats)
-      ∙ ap (option_map (with_modulus (is_set Cycles b) (is_set Stats b))) (p.modulus e))
+      (ap (λ cycles. option_map (with_modulus cycles (is_set Stats a) (is_set SetAlone a)) (modulus_in a)) (p.set Cycles)
+      ∙ ap (λ stats. option_map (with_modulus (is_set Cycles b) stats (is_set SetAlone a)) (modulus_in a)) (p.set Stats)
+      ∙ ap (λ alone. option_map (with_modulus (is_set Cycles b) (is_set Stats b) alone) (modulus_in a)) (p.set SetAlone)
+      ∙ ap (option_map (with_modulus (is_set Cycles b) (is_set Stats b) (is_set SetAlone b))) (p.modulus e))
 
   once_same : (x y : Bool) → are_once a ≡ x → x ≡ y → option_and_then (chosen_of form) (cond x (Some (of a)) None) ≡ option_and_then (chosen_of form) (cond y (Some (of b)) None)
   once_same true true e f = chosen_same e
@@ -107,13 +115,17 @@ module _ (form : Row) (o : List (List ℕ)) (a b : List Setting) (p : SaySame a 
   once_same true false e f = cc
   once_same false true e f = cc
 
-  fits_same : (few many : Bool) → option_and_then (chosen_of form) (cond (few && many && are_once a) (Some (of a)) None) ≡ option_and_then (chosen_of form) (cond (few && many && are_once b) (Some (of b)) None)
-  fits_same false many = refl
-  fits_same true false = refl
-  fits_same true true = once_same (are_once a) (are_once b) refl p.once
+  fits_same : (before : Bool) → option_and_then (chosen_of form) (cond (before && are_once a) (Some (of a)) None) ≡ option_and_then (chosen_of form) (cond (before && are_once b) (Some (of b)) None)
+  fits_same false = refl
+  fits_same true = once_same (are_once a) (are_once b) refl p.once
+
+  agree_same : agree a ≡ agree b
+  agree_same = ap (λ n. nat_le n 1 || not (has_alone a)) p.many ∙ ap (λ x. nat_le (length b) 1 || not x) p.alone
 
   request_same : request_of form (of a) ≡ request_of form (of b)
-  request_same = fits_same (nat_le form.fewest (length o)) (nat_le (length o) form.most)
+  request_same =
+      let operands : Bool = nat_le form.fewest (length o) && nat_le (length o) form.most && are_operands form.tool o in
+      ap (λ x. option_and_then (chosen_of form) (cond (operands && x && are_once a) (Some (of a)) None)) agree_same ∙ fits_same (operands && agree b)
 
 module _ (form : Row) (so_far these those : Spoken) (none : these.operands ≡ []) where
   operands_same : (m : Spoken) → (onto so_far (onto these (onto those m))).operands ≡ (onto so_far (onto those (onto these m))).operands

@@ -5,7 +5,7 @@ use Rattle.std.specs.Option.{option_map, option_and_then}
 use Rattle.std.specs.List.{position_or_len}
 use Rattle.std.specs.Str.{bytes_eq}
 use Rattle.command_line.specs.declared.choice.Choice.{Choice}
-use Rattle.command_line.specs.declared.choice.Choice.TheVariants.{Modulus, Cycles, Stats}
+use Rattle.command_line.specs.declared.choice.Choice.TheVariants.{Modulus, Cycles, Stats, SetAlone}
 use Rattle.command_line.specs.declared.word.Next.TheVariants.{Anything}
 use Rattle.command_line.specs.Forms.{Row, Spoken, form_named, named, option_name, option_named, takes_value, is_plain, is_empty, is_equals, also, alone, valued, word_first, words_read}
 use Rattle.command_line.specs.declared.word.Said.TheVariants.{Nothing}
@@ -41,6 +41,7 @@ module _ (form : Row) (value : List ℕ) (after : List (List ℕ)) (plain : is_p
   modulus_takes Modulus e = refl
   modulus_takes Cycles e = let h = name_of_named form.options (codes "--mod") Cycles e in cc
   modulus_takes Stats e = let h = name_of_named form.options (codes "--mod") Stats e in cc
+  modulus_takes SetAlone e = let h = name_of_named form.options (codes "--mod") SetAlone e in cc
 
   abbrev joined : List ℕ
   joined = codes "--mod" ++ codes "=" ++ value
@@ -57,6 +58,7 @@ module _ (form : Row) (value : List ℕ) (after : List (List ℕ)) (plain : is_p
   choice_ways Modulus takes = modulus_ways
   choice_ways Cycles takes = cc
   choice_ways Stats takes = cc
+  choice_ways SetAlone takes = cc
 
 pub two_ways : (name : List ℕ) (form : Row) → form_named name ≡ Some form
     → (before after : List (List ℕ)) (so_far : Spoken) → AreWhole form before so_far

@@ -1,6 +1,6 @@
 -- The forms of the words after a tool's name: a table with a row for each tool and each option, and
 -- what words say by it.
-use Rattle.std.specs.Prelude.{ℕ, List, [], ◌∷◌, ◌++◌, length, Option, None, Some, Bool, true, false, not, ◌&&◌, ◌==◌, nat_le, nat_lt, if◌then◌else◌, codes, map, string_bytes}
+use Rattle.std.specs.Prelude.{ℕ, List, [], ◌∷◌, ◌++◌, length, Option, None, Some, is_some, Bool, true, false, not, ◌&&◌, ◌||◌, ◌==◌, nat_le, nat_lt, if◌then◌else◌, codes, map, string_bytes}
 use Rattle.std.specs.Option.{option_map}
 use Rattle.std.specs.List.{list_any, position_or_len, before_first, after_first}
 use Rattle.std.specs.Str.{bytes_eq}
@@ -8,13 +8,15 @@ use Rattle.std.specs.declared.string.String.{String}
 use Rattle.command_line.specs.declared.form.ToolName.{ToolName}
 use Rattle.command_line.specs.declared.form.ToolName.TheVariants as tools
 use Rattle.command_line.specs.declared.choice.Choice.{Choice}
-use Rattle.command_line.specs.declared.choice.Choice.TheVariants.{Modulus, Cycles, Stats}
+use Rattle.command_line.specs.declared.choice.Choice.TheVariants.{Modulus, Cycles, Stats, SetAlone}
 use Rattle.command_line.specs.declared.word.Next.{Next}
 use Rattle.command_line.specs.declared.word.Next.TheVariants.{Anything, ValueOf, OperandsAlone}
 use Rattle.command_line.specs.declared.word.Said.{Said}
 use Rattle.command_line.specs.declared.word.Said.TheVariants.{Nothing, Operand, Set}
 use Rattle.command_line.specs.declared.word.WordRead.{WordRead}
 use Rattle.command_line.specs.declared.choice.Setting.{Setting}
+use Rattle.command_line.specs.Operands.{holes_named}
+pub use Rattle.command_line.specs.Operands.{named}
 
 -- ---- the table
 
@@ -38,6 +40,10 @@ of_homology = Modulus ∷ Cycles ∷ []
 abbrev pub of_pairs : List Choice
 of_pairs = Modulus ∷ Cycles ∷ Stats ∷ []
 
+-- the options of the generator
+abbrev pub of_generator : List Choice
+of_generator = Modulus ∷ SetAlone ∷ []
+
 abbrev pub forms : List Row
 forms =
     row tools.Homcubes (codes "homcubes") 1 2 of_pairs
@@ -46,6 +52,7 @@ forms =
     ∷ row tools.Cubnbhd (codes "cubnbhd") 1 1 []
     ∷ row tools.Cubcells (codes "cubcells") 1 1 []
     ∷ row tools.Homchain (codes "homchain") 1 1 of_homology
+    ∷ row tools.Gen (codes "gen") 2 2 of_generator
     ∷ []
 
 -- an option: its name, and whether it takes a value
@@ -53,16 +60,18 @@ abbrev pub option_name : Choice → List ℕ
 option_name Modulus = codes "--mod"
 option_name Cycles = codes "--cycles"
 option_name Stats = codes "--stats"
+option_name SetAlone = codes "--set"
 
 abbrev pub takes_value : Choice → Bool
 takes_value Modulus = true
 takes_value Cycles = false
 takes_value Stats = false
+takes_value SetAlone = false
 
--- the first entry of a list that has this name
-abbrev pub named : {A : Type 0} → (A → List ℕ) → List A → List ℕ → Option A
-named name_of [] word = None
-named name_of (x ∷ xs) word = if bytes_eq word (name_of x) then Some x else named name_of xs word
+-- whether the option stands with no other
+abbrev pub stands_alone : Choice → Bool
+stands_alone SetAlone = true
+stands_alone choice = false
 
 abbrev pub form_named : List ℕ → Option Row
 form_named word = named (λ form. form.name) forms word
@@ -169,6 +178,7 @@ abbrev pub same_choice : Choice → Choice → Bool
 same_choice Modulus Modulus = true
 same_choice Cycles Cycles = true
 same_choice Stats Stats = true
+same_choice SetAlone SetAlone = true
 same_choice choice other = false
 
 abbrev pub is_set : Choice → List Setting → Bool
@@ -178,10 +188,25 @@ abbrev pub are_once : List Setting → Bool
 are_once [] = true
 are_once (s ∷ ss) = not (is_set s.choice ss) && are_once ss
 
--- neither too few operands nor too many, and each option once
+-- no other option stands beside one that stands alone
+abbrev pub has_alone : List Setting → Bool
+has_alone settings = list_any (λ s. stands_alone s.choice) settings
+
+abbrev pub agree : List Setting → Bool
+agree settings = nat_le (length settings) 1 || not (has_alone settings)
+
+-- the operands are words that the tool takes: those of the generator name a number of holes, and
+-- those of other tools are any words
+abbrev pub are_operands : ToolName → List (List ℕ) → Bool
+are_operands tools.Gen operands = is_some (holes_named operands)
+are_operands tool operands = true
+
+-- neither too few operands nor too many, all of them words that the tool takes; options that may
+-- stand together, and each once
 abbrev pub fits : Row → Spoken → Bool
 fits form spoken =
     nat_le form.fewest (length spoken.operands) && nat_le (length spoken.operands) form.most
+    && are_operands form.tool spoken.operands && agree spoken.settings
     && are_once spoken.settings
 
 abbrev pub fitting : Row → Spoken → Option Spoken

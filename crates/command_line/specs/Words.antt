@@ -6,7 +6,7 @@ use Rattle.faults.specs.declared.fault.Fault.{Fault}
 use Rattle.faults.specs.declared.fault.Fault.TheVariants.{NoTool, NotAForm, OutOfMemory}
 use Rattle.command_line.specs.declared.form.ToolName.{ToolName}
 use Rattle.command_line.specs.declared.choice.Choice.{Choice}
-use Rattle.command_line.specs.declared.choice.Choice.TheVariants.{Modulus, Cycles, Stats}
+use Rattle.command_line.specs.declared.choice.Choice.TheVariants.{Modulus, Cycles, Stats, SetAlone}
 use Rattle.command_line.specs.declared.choice.Setting.{Setting}
 use Rattle.command_line.specs.declared.word.Next.TheVariants.{Anything}
 use Rattle.command_line.specs.Forms.{Row, Spoken, named, form_named, words_read, is_set, fitting}
@@ -22,24 +22,29 @@ abbrev pub modulus_of : Choice → Option (List ℕ) → Option ℕ → Option �
 modulus_of Modulus value others = modulus_named value
 modulus_of Cycles value others = others
 modulus_of Stats value others = others
+modulus_of SetAlone value others = others
 
 -- the modulus that the options set; without one it is 2
 abbrev pub modulus_in : List Setting → Option ℕ
 modulus_in [] = Some 2
 modulus_in (s ∷ ss) = modulus_of s.choice s.value (modulus_in ss)
 
--- the modulus, whether the cycles are printed, and whether the counts are
+-- the modulus, whether the cycles are printed, whether the counts are, and whether a set is, and
+-- nothing of its homology
 pub record Chosen : Type 0 where
   pub modulus : ℕ
   pub cycles : Bool
   pub stats : Bool
+  pub set_alone : Bool
 
-abbrev pub with_modulus : Bool → Bool → ℕ → Chosen
-with_modulus cycles stats modulus = record { modulus = modulus; cycles = cycles; stats = stats }
+abbrev pub with_modulus : Bool → Bool → Bool → ℕ → Chosen
+with_modulus cycles stats set_alone modulus =
+    record { modulus = modulus; cycles = cycles; stats = stats; set_alone = set_alone }
 
 abbrev pub options_in : List Setting → Option Chosen
 options_in settings =
-    option_map (with_modulus (is_set Cycles settings) (is_set Stats settings)) (modulus_in settings)
+    option_map (with_modulus (is_set Cycles settings) (is_set Stats settings)
+    (is_set SetAlone settings)) (modulus_in settings)
 
 -- ---- what words ask for
 

@@ -1,9 +1,10 @@
 //! What all words after a tool's name say.
 ghost use Rattle.std.specs.Prelude.{◌≡◌, ◌≤◌, length, true, OnOk};
-ghost use Rattle.command_line.specs.Forms.{nothing_spoken, after, is_set, are_once, fits};
+ghost use Rattle.command_line.specs.Forms.{nothing_spoken, after, is_set, are_once, has_alone, agree, fits};
 
 use crate::choice::{Choice, Setting};
 use crate::form::Form;
+use crate::operands::are_operands;
 use crate::word::Said;
 use faults::Name;
 use std::alloc::{AllocError as NoMemory, Global};
@@ -47,13 +48,16 @@ impl Arguments {
         Ok(())
     }
 
-    /// Whether there are as many operands as the form takes, and each option once.
+    /// Whether there are as many operands as the form takes, all of them words that the tool takes,
+    /// and options that may stand together, each once.
     pub fn fits(&self, form: &Form) -> bool
         ensures fits { result ≡ fits form.now self.now }
         ensures some { result ≡ true → 1 ≤ length self.now.operands }
     {
         form.fewest() <= self.operands.len()
             && self.operands.len() <= form.most()
+            && are_operands(form.tool(), &self.operands)
+            && agree(&self.settings)
             && are_once(&self.settings)
     }
 
@@ -82,6 +86,19 @@ fn are_once(settings: &[Setting]) -> bool
         }
     }
     true
+}
+
+// Whether no other option stands beside one that stands alone.
+fn agree(settings: &[Setting]) -> bool
+    ensures { result ≡ agree settings.now }
+{
+    settings.len() <= 1 || !has_alone(settings)
+}
+
+fn has_alone(settings: &[Setting]) -> bool
+    ensures { result ≡ has_alone settings.now }
+{
+    settings.iter().any(|setting| setting.choice.stands_alone())
 }
 
 /// Whether the option is set.

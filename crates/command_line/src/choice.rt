@@ -1,6 +1,6 @@
 //! The options of tools.
 ghost use Rattle.std.specs.Prelude.{◌≡◌};
-ghost use Rattle.command_line.specs.Forms.{option_name, takes_value, same_choice};
+ghost use Rattle.command_line.specs.Forms.{option_name, takes_value, stands_alone, same_choice};
 
 use faults::Name;
 
@@ -13,6 +13,8 @@ pub enum Choice {
     Cycles,
     /// That the counts of cells and moved cubes are printed.
     Stats,
+    /// That a set is printed, and nothing of its homology. It stands with no other option.
+    SetAlone,
 }
 
 /// An option as it stands among the words, with its value where it takes one.
@@ -31,6 +33,7 @@ impl Choice {
             Choice::Modulus => "--mod",
             Choice::Cycles => "--cycles",
             Choice::Stats => "--stats",
+            Choice::SetAlone => "--set",
         }
     }
 
@@ -42,6 +45,17 @@ impl Choice {
             Choice::Modulus => true,
             Choice::Cycles => false,
             Choice::Stats => false,
+            Choice::SetAlone => false,
+        }
+    }
+
+    /// Whether the option stands with no other.
+    pub fn stands_alone(self) -> bool
+        ensures { result ≡ stands_alone self }
+    {
+        match self {
+            Choice::SetAlone => true,
+            Choice::Modulus | Choice::Cycles | Choice::Stats => false,
         }
     }
 
@@ -53,6 +67,7 @@ impl Choice {
             (Choice::Modulus, Choice::Modulus) => true,
             (Choice::Cycles, Choice::Cycles) => true,
             (Choice::Stats, Choice::Stats) => true,
+            (Choice::SetAlone, Choice::SetAlone) => true,
             _ => false,
         }
     }

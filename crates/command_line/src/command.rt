@@ -1,10 +1,12 @@
 //! What words ask for.
-ghost use Rattle.std.specs.Prelude.{◌≡◌};
+ghost use Rattle.std.specs.Prelude.{◌≡◌, ◌≤◌, IfSome};
 ghost use Rattle.std.specs.Option.{option_map};
 ghost use Rattle.command_line.specs.Words.{request_of, first, second};
+ghost use Rattle.command_line.specs.Operands.{holes_named};
 
 use crate::arguments::Arguments;
 use crate::form::{Form, ToolName};
+use crate::operands::holes_named;
 use crate::options::Options;
 use faults::Name;
 use std::marker::Model;
@@ -65,6 +67,14 @@ impl Command {
         ensures { option_map (λ name. name.now) result ≡ second self.now.operands }
     {
         self.operands.get(1)
+    }
+
+    /// The number of holes that the operands name, from 1 to 527, where they name one.
+    pub fn holes(&self) -> Option<u16>
+        ensures value { result ≡ holes_named self.now.operands }
+        ensures within { IfSome result (λ n. (1 ≤ n) × (n ≤ 527)) }
+    {
+        holes_named(&self.operands)
     }
 
     /// What the options say.

@@ -14,6 +14,7 @@ pub enum ToolName {
     Cubnbhd,
     Cubcells,
     Homchain,
+    Gen,
 }
 
 /// A row of the table of forms: a tool with its name, the fewest and the most operands, one at
@@ -44,6 +45,9 @@ const OF_HOMOLOGY: [Choice; 2] = [Choice::Modulus, Choice::Cycles];
 // The options of the tool on pairs of sets.
 const OF_PAIRS: [Choice; 3] = [Choice::Modulus, Choice::Cycles, Choice::Stats];
 
+// The options of the generator.
+const OF_GENERATOR: [Choice; 2] = [Choice::Modulus, Choice::SetAlone];
+
 impl Form {
     /// The form of the tool of this name.
     pub fn named(word: &str) -> Option<Form>
@@ -56,6 +60,7 @@ impl Form {
             "cubnbhd" => Some(Form::of(ToolName::Cubnbhd, "cubnbhd", 1, 1, &[])),
             "cubcells" => Some(Form::of(ToolName::Cubcells, "cubcells", 1, 1, &[])),
             "homchain" => Some(Form::of(ToolName::Homchain, "homchain", 1, 1, &OF_HOMOLOGY)),
+            "gen" => Some(Form::of(ToolName::Gen, "gen", 2, 2, &OF_GENERATOR)),
             _ => None,
         }
     }

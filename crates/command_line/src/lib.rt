@@ -8,6 +8,7 @@ mod command;
 mod form;
 mod laws;
 mod modulus;
+mod operands;
 mod options;
 mod word;
 

@@ -14,6 +14,7 @@ pub struct Options {
     modulus: u16,
     cycles: bool,
     stats: bool,
+    set_alone: bool,
 }
 
 impl Model for Options {
@@ -22,7 +23,12 @@ impl Model for Options {
 
     ghost Value = { Chosen };
 
-    ghost view = { λ o. record { modulus = o.modulus; cycles = o.cycles; stats = o.stats } };
+    ghost view = { λ o. record {
+      modulus = o.modulus;
+      cycles = o.cycles;
+      stats = o.stats;
+      set_alone = o.set_alone;
+    } };
 
     ghost invariant = { λ o. IsModulus o.modulus };
 }
@@ -35,10 +41,12 @@ impl Options {
         let modulus = modulus_in(settings)?;
         let cycles = is_set(Choice::Cycles, settings);
         let stats = is_set(Choice::Stats, settings);
+        let set_alone = is_set(Choice::SetAlone, settings);
         Some(Options {
             modulus,
             cycles,
             stats,
+            set_alone,
         })
     }
 
@@ -63,6 +71,13 @@ impl Options {
     {
         self.stats
     }
+
+    /// Whether a set is printed, and nothing of its homology.
+    pub fn set_alone(&self) -> bool
+        ensures { result ≡ self.now.set_alone }
+    {
+        self.set_alone
+    }
 }
 
 // The modulus that the options set; without one it is 2.
@@ -78,7 +93,7 @@ fn modulus_in(settings: &[Setting]) -> Option<u16>
                     None => None,
                 };
             }
-            Choice::Cycles | Choice::Stats => {}
+            Choice::Cycles | Choice::Stats | Choice::SetAlone => {}
         }
     }
     Some(2)

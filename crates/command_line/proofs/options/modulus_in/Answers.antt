@@ -1,6 +1,6 @@
 use Rattle.std.proofs.Common.{sym, ap, ◌∙◌, ⊎_elim, decimal}
 use Rattle.field_mod.specs.Moduli.{moduli}
-use Rattle.command_line.specs.declared.choice.Choice.TheVariants.{Modulus, Cycles, Stats}
+use Rattle.command_line.specs.declared.choice.Choice.TheVariants.{Modulus, Cycles, Stats, SetAlone}
 use Rattle.command_line.specs.Forms.{named}
 use Rattle.command_line.specs.Words.{modulus_named}
 use Rattle.command_line.proofs.Tables.{modulus_at}
@@ -21,5 +21,8 @@ returns-in-None-clause-value c =
 pub loop-setting-preserved : goal.loop-setting-preserved
 loop-setting-preserved c = ⊎_elim
     (λ is. sym (modulus_at c.args.settings.now c.loop-setting.setting-index c.setting-item.result Cycles c.loop-setting-test.true c.setting-item.is is) ∙ c.loop-setting.invariant)
+    (λ rest. ⊎_elim
     (λ is. sym (modulus_at c.args.settings.now c.loop-setting.setting-index c.setting-item.result Stats c.loop-setting-test.true c.setting-item.is is) ∙ c.loop-setting.invariant)
+    (λ is. sym (modulus_at c.args.settings.now c.loop-setting.setting-index c.setting-item.result SetAlone c.loop-setting-test.true c.setting-item.is is) ∙ c.loop-setting.invariant)
+    rest)
     c.in-Cycles.is

@@ -1,0 +1,5 @@
+pub mod Lists
+pub mod Grids
+pub mod Making
+pub mod Counted
+pub mod Closed

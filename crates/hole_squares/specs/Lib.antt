@@ -1,0 +1,4 @@
+-- Squares with holes, and how many they are.
+pub mod Holes
+pub mod Columns
+pub mod Counts
