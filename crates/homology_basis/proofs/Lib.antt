@@ -7,3 +7,5 @@ pub mod ByDegree
 pub mod Beginning
 pub mod Whole
 pub mod Unique
+pub mod Remaining
+pub mod Together

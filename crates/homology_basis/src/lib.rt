@@ -1,4 +1,5 @@
-//! Bases of homology from a log of reduced pairs: cycles, the cocycles dual to them, and the contraction.
+//! Pairs of sets prepared: excised, grown, collapsed and reduced; and bases of homology from their logs: cycles, the cocycles
+//! dual to them, and the contraction.
 #![tactic(auto)]
 
 mod bases;
@@ -7,8 +8,10 @@ mod classes;
 mod cycles;
 mod making;
 mod prepared;
+mod reduced;
 
 pub use bases::Basis;
 pub use cycles::CycleBasis;
 pub use making::{basis, cycle_basis};
 pub use prepared::{Prepared, prepare};
+pub use reduced::{ReducedPair, reduced_pair};

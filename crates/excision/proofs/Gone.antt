@@ -1,0 +1,176 @@
+-- The faces of a cell that a test tells, and those that a log leaves, gathered face by face
+use Rattle.std.proofs.Common.{◌≡◌, ◌↔◌, ℕ, zero, suc, ◌+◌, ◌^◌, ◌<◌, ◌≤◌, ◌⊎◌, inl, inr, refl, sym, ap, ◌∙◌, arith, ⊎_elim, List, [], ◌∷◌, ◌++◌, length, get_or, Bool, true, false, cond, subst, append_assoc, Result, Ok, Err, IfOk}
+use Rattle.std.specs.List.{Contains, filter, list_all}
+use Rattle.std.specs.Cmp as cmp
+use Rattle.std.proofs.lemmas.Bool.{cases_Bool, both_ways}
+use Rattle.std.proofs.lemmas.List.Folds.{list_any_at, Any-from_list_any}
+use Rattle.elem_cubes.specs.declared.range.TheConstants.{MAX_EMBEDDING}
+use Rattle.elem_cubes.specs.Cells.{Factor, dimension_of, is_file_factor}
+use Rattle.elem_cubes.specs.Faces.{IsFace, is_face, closure_of}
+use Rattle.elem_cubes.specs.Order.{cell_cmp}
+use Rattle.elem_cubes.specs.Laws.{cell_at}
+use Rattle.elem_cubes.proofs.Bits.{few_intervals}
+use Rattle.elem_cubes.proofs.Choosing.{few_faces, length-closure}
+use Rattle.elem_cubes.proofs.FaceLemmas.{face_length, face_trans}
+use Rattle.elem_cubes.proofs.Listing.{closures_are_faces}
+use Rattle.elem_cubes.proofs.Members.{In, In-from, from-In, In-append, left-In, right-In}
+use Rattle.elem_cubes.proofs.Ranges.{faces_stay_in_range}
+use Rattle.cube_sets.specs.Sorted.{has}
+use Rattle.cube_sets.specs.Sets.{Members, IsCubeSet, is_member}
+use Rattle.cube_sets.specs.Closures.{is_cell_of}
+use Rattle.cube_sets.proofs.Spreads.{has_In, In_has, all_from_In, In_passes}
+use Rattle.cube_sets.proofs.Covering.{member_parts, member_of, in_range}
+use Rattle.algebraic_reduction.specs.Reduction.{Step, IsUnpaired}
+use Rattle.cell_complex.specs.Sorted.{IsSortedCells}
+use Rattle.cell_complex.specs.RelativeComplex.{IsClosedList}
+use Rattle.cell_complex.specs.Acyclic.{IsAcyclic}
+use Rattle.cell_complex.specs.Growth.{cells_in}
+use Rattle.cell_complex.proofs.Alike.{of_cells}
+use Rattle.cell_complex.proofs.Deciding.{has_is, has_from, from_has}
+use Rattle.cell_complex.proofs.Meeting.{cells_in-face, face-cells_in}
+use Rattle.cell_complex.proofs.Sorting.{apart}
+use Rattle.excision.specs.Left.{is_left, is_gone, IsMovableInto, IsClosedIn, IsLeftFace}
+use Rattle.excision.proofs.Leaving.{left_parts, left_from}
+
+-- ---- the faces that a test tells
+
+abbrev pub AreDeadTo : (List Factor → Bool) → List Factor → List (List Factor) → List (List Factor) → Type 0
+AreDeadTo t q dead rest = dead ++ filter t rest ≡ filter t (closure_of q)
+
+module _ (t : List Factor → Bool) (q : List Factor) (dead : List (List Factor)) where
+  pub rest_first : (rest : List (List Factor)) → rest ≡ closure_of q → dead ≡ [] → AreDeadTo t q dead rest
+  rest_first rest e f = λ j. f j ++ filter t (e j)
+
+  pub rest_skip : (rest next : List (List Factor)) (c : List Factor) → rest ≡ c ∷ next → t c ≡ false → AreDeadTo t q dead rest → AreDeadTo t q dead next
+  rest_skip rest next c e f r = ap (λ (xs : List (List Factor)). dead ++ xs) (sym (ap (filter t) e ∙ ap (λ b. cond b (c ∷ filter t next) (filter t next)) f)) ∙ r
+
+  pub rest_take : (rest next now : List (List Factor)) (c : List Factor) → rest ≡ c ∷ next → t c ≡ true → now ≡ dead ++ c ∷ [] → AreDeadTo t q dead rest → AreDeadTo t q now next
+  rest_take rest next now c e f g r = ap (λ (xs : List (List Factor)). xs ++ filter t next) g ∙ append_assoc dead (c ∷ []) (filter t next) ∙ ap (λ (xs : List (List Factor)). dead ++ xs) (sym (ap (filter t) e ∙ ap (λ b. cond b (c ∷ filter t next) (filter t next)) f)) ∙ r
+
+  pub rest_end : (rest : List (List Factor)) → rest ≡ [] → AreDeadTo t q dead rest → dead ≡ cells_in t q
+  rest_end rest e r = sym (ap (λ (xs : List (List Factor)). dead ++ filter t xs) e ∙ nothing dead) ∙ r
+    where
+      nothing : (xs : List (List Factor)) → xs ++ [] ≡ xs
+      nothing [] = refl
+      nothing (x ∷ xs) = ap (λ (ys : List (List Factor)). x ∷ ys) (nothing xs)
+
+few_filtered : (t : List Factor → Bool) (xs : List (List Factor)) → length (filter t xs) ≤ length xs
+few_filtered t [] = omega arith
+few_filtered t (x ∷ xs) = ⊎_elim
+    (λ e. let h : length (filter t (x ∷ xs)) ≡ suc (length (filter t xs)) = ap (λ b. length (cond b (x ∷ filter t xs) (filter t xs))) e in let k = few_filtered t xs in omega arith)
+    (λ e. let h : length (filter t (x ∷ xs)) ≡ length (filter t xs) = ap (λ b. length (cond b (x ∷ filter t xs) (filter t xs))) e in let k = few_filtered t xs in omega arith)
+    (cases_Bool (t x))
+
+module _ (t : List Factor → Bool) (q : List Factor) where
+  pub dead_few : (dead : List (List Factor)) → dead ≡ cells_in t q → length q ≤ MAX_EMBEDDING → length dead < 2 ^ 32
+  dead_few dead e l =
+      let a = few_filtered t (closure_of q) in
+      let b = few_faces (dimension_of q) (let h = few_intervals q in omega arith) in
+      omega (arith, ap length e, length-closure q)
+
+  in_dead : (c : List Factor) → In (cells_in t q) c → IsFace q c × (t c ≡ true)
+  in_dead c i = cells_in-face t q c (In_has (cells_in t q) c i)
+
+  pub dead_alike : (dead : List (List Factor)) (n : ℕ) → dead ≡ cells_in t q → n ≡ length q → list_all is_file_factor q ≡ true → list_all (is_member n) dead ≡ true
+  dead_alike dead n e l range = ap (list_all (is_member n)) e ∙ all_from_In (is_member n) (cells_in t q) (λ c i. let f = (in_dead c i).0 in member_of n c (face_length q c f ∙ sym l) (faces_stay_in_range.files q c f range))
+
+pub sorted_of_set : (s : Members) → IsCubeSet s → IsSortedCells s.cells
+sorted_of_set s k = record {
+  sorted = k.sorted;
+  alike = λ i j li lj. len i li ∙ sym (len j lj);
+  in_range = in_range s.dimension s.cells k.alike;
+  few = k.few;
+}
+  where
+    at : (xs : List (List Factor)) (i : ℕ) → i < length xs → In xs (cell_at xs i)
+    at [] i l = absurd (omega arith)
+    at (x ∷ xs) zero l = inl refl
+    at (x ∷ xs) (suc i) l = inr (at xs i (omega arith))
+
+    len : (i : ℕ) → i < length s.cells → length (cell_at s.cells i) ≡ s.dimension
+    len i l = (member_parts s.dimension (cell_at s.cells i) (In_passes (is_member s.dimension) s.cells (cell_at s.cells i) k.alike (at s.cells i l))).0
+
+-- lists with the same members have the same cells
+cells_alike : (xs ys : List (List Factor)) → ((c : List Factor) → has cell_cmp xs c ≡ has cell_cmp ys c) → (c : List Factor) → is_cell_of xs c ≡ is_cell_of ys c
+cells_alike xs ys h c = cmp.both_ways (is_cell_of xs c) (is_cell_of ys c) (λ e. over xs ys h e) (λ e. over ys xs (λ d. sym (h d)) e)
+  where
+    over : (us vs : List (List Factor)) → ((d : List Factor) → has cell_cmp us d ≡ has cell_cmp vs d) → is_cell_of us c ≡ true → is_cell_of vs c ≡ true
+    over us vs k e =
+        let w = Any-from_list_any (λ s. is_face s c) us e in
+        let v = from_has vs w.1 (sym (has_is vs w.1) ∙ sym (k w.1) ∙ has_is us w.1 ∙ has_from us w.1 (w.0, w.2, w.3)) in
+        list_any_at (λ s. is_face s c) vs v.0 w.1 v.1 (ap (λ s. is_face s c) v.2 ∙ w.4)
+
+module _ (t : List Factor → Bool) (q : List Factor) (inner : IsClosedIn q t) (dead : List (List Factor)) (same : (c : List Factor) → has cell_cmp dead c ≡ has cell_cmp (cells_in t q) c) where
+  of_dead : (c : List Factor) → Contains dead c → IsFace q c × (t c ≡ true)
+  of_dead c w = cells_in-face t q c (sym (same c) ∙ In_has dead c (In-from dead c w))
+
+  pub dead_closed : IsClosedList dead
+  dead_closed c r f w =
+      let v = of_dead c w in
+      from-In dead r (has_In dead r (same r ∙ face-cells_in t q r (face_trans q c r v.0 f) (inner c r v.0 f v.1)))
+
+  pub movable_told : (p : ℕ) (b : Bool) → t q ≡ false → ((b ≡ true → IsAcyclic p dead) × (IsAcyclic p dead → b ≡ true)) → (b ≡ true → IsMovableInto p t q) × (IsMovableInto p t q → b ≡ true)
+  movable_told p b new h = (
+    (λ e. record { new = new; acyclic = of_cells p dead (cells_in t q) (cells_alike dead (cells_in t q) same) (h.0 e) }),
+    (λ m. h.1 (of_cells p (cells_in t q) dead (cells_alike (cells_in t q) dead (λ c. sym (same c))) m.acyclic)),
+  )
+
+pub ok_by : {E : Type 0} (P Q : Bool → Type 0) (r : Result Bool E) → IfOk r P → ((b : Bool) → P b → Q b) → IfOk r Q
+ok_by P Q (Ok b) h f = f b h
+ok_by P Q (Err e) h f = tt
+
+-- ---- the numbers of the faces that are left
+
+pub record LeftSoFar (cells : List (List Factor)) (ss : List Step) (q : List Factor) (numbers : List ℕ) (rest : List (List Factor)) : Type 0 where
+  pub faces : (c : List Factor) → In rest c → IsFace q c
+  pub sound : (n : ℕ) → Contains numbers n → IsLeftFace cells ss q n
+  pub all : (n : ℕ) → IsLeftFace cells ss q n → In rest (cell_at cells n) ⊎ Contains numbers n
+
+pub left_first : (cells : List (List Factor)) (ss : List Step) (q : List Factor) (numbers : List ℕ) (rest : List (List Factor)) → rest ≡ closure_of q → numbers ≡ [] → LeftSoFar cells ss q numbers rest
+left_first cells ss q numbers rest e f = record {
+  faces = λ c i. (closures_are_faces.faces q c).0 (from-In (closure_of q) c (subst (λ (xs : List (List Factor)). In xs c) e i));
+  sound = λ n w. absurd (In-from [] n (subst (λ (xs : List ℕ). Contains xs n) f w));
+  all = λ n l. inl (subst (λ (xs : List (List Factor)). In xs (cell_at cells n)) (sym e) (In-from (closure_of q) (cell_at cells n) ((closures_are_faces.faces q (cell_at cells n)).1 l.face)));
+}
+
+module _ (cells : List (List Factor)) (ss : List Step) (q : List Factor) (numbers : List ℕ) (rest next : List (List Factor)) (c : List Factor) (sorted : IsSortedCells cells) (e : rest ≡ c ∷ next) (s : LeftSoFar cells ss q numbers rest) where
+  behind : (d : List Factor) → In next d → IsFace q d
+  behind d i = s.faces d (subst (λ (xs : List (List Factor)). In xs d) (sym e) (inr i))
+
+  front : IsFace q c
+  front = s.faces c (subst (λ (xs : List (List Factor)). In xs c) (sym e) (inl refl))
+
+  pub left_skip : is_left cells ss c ≡ false → LeftSoFar cells ss q numbers next
+  left_skip f = record {
+    faces = behind;
+    sound = s.sound;
+    all = λ n l. ⊎_elim
+        (λ i. ⊎_elim (λ k. absurd (both_ways (is_left cells ss c) f (ap (is_left cells ss) k ∙ left_from cells sorted ss n l.inside l.alive))) (λ i. inl i) (subst (λ (xs : List (List Factor)). In xs (cell_at cells n)) e i))
+        (λ w. inr w)
+        (s.all n l);
+  }
+
+  pub left_take : (now : List ℕ) (k : ℕ) → k < length cells → cell_at cells k ≡ c → IsUnpaired ss k → now ≡ numbers ++ k ∷ [] → LeftSoFar cells ss q now next
+  left_take now k inside is alive g = record {
+    faces = behind;
+    sound = λ n w. ⊎_elim
+        (λ i. s.sound n (from-In numbers n i))
+        (λ i. ⊎_elim (λ (x : k ≡ n). subst (λ (m : ℕ). IsLeftFace cells ss q m) x (record { inside = inside; face = subst (λ (d : List Factor). IsFace q d) (sym is) front; alive = alive })) (λ x. absurd x) i)
+        (In-append numbers (k ∷ []) n (subst (λ (xs : List ℕ). In xs n) g (In-from now n w)));
+    all = λ n l. ⊎_elim
+        (λ i. ⊎_elim
+        (λ x. inr (subst (λ (m : ℕ). Contains now m) (apart cells sorted.sorted k n inside l.inside (is ∙ x)) (later k (inr (inl refl)))))
+        (λ i. inl i)
+        (subst (λ (xs : List (List Factor)). In xs (cell_at cells n)) e i))
+        (λ w. inr (later n (inl (In-from numbers n w))))
+        (s.all n l);
+  }
+    where
+      later : (n : ℕ) → In numbers n ⊎ In (k ∷ []) n → Contains now n
+      later n h = from-In now n (subst (λ (xs : List ℕ). In xs n) (sym g) (⊎_elim (λ i. left-In numbers (k ∷ []) n i) (λ i. right-In numbers (k ∷ []) n i) h))
+
+pub left_end : (cells : List (List Factor)) (ss : List Step) (q : List Factor) (numbers : List ℕ) (rest : List (List Factor)) → rest ≡ [] → LeftSoFar cells ss q numbers rest → (n : ℕ) → Contains numbers n ↔ IsLeftFace cells ss q n
+left_end cells ss q numbers rest e s n = (
+  (λ w. s.sound n w),
+  (λ l. ⊎_elim (λ i. absurd (subst (λ (xs : List (List Factor)). In xs (cell_at cells n)) e i)) (λ w. w) (s.all n l)),
+)

@@ -1,0 +1,11 @@
+pub mod Touching
+pub mod Sharing
+pub mod Leaving
+pub mod Points
+pub mod Telling
+pub mod Moving
+pub mod Counting
+pub mod Gone
+pub mod Parted
+pub mod Owning
+pub mod Moved

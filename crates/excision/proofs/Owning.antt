@@ -1,0 +1,114 @@
+-- The owners of cells: one more, those of all faces of a cell, and those of all members
+use Rattle.std.proofs.Common.{◌≡◌, ◌≢◌, ℕ, zero, suc, ◌+◌, ◌<◌, ◌≤◌, ◌⊎◌, inl, inr, refl, sym, ap, ◌∙◌, arith, ⊎_elim, List, [], ◌∷◌, ◌++◌, length, get_or, set, map, subst}
+use Rattle.std.specs.List.{Contains}
+use Rattle.std.proofs.lemmas.Bool.{cases_eq, cases_lt}
+use Rattle.std.proofs.lemmas.List.{map-set, length-map, length-set, get_or-set_same, get_or-set_other}
+use Rattle.std.proofs.lemmas.List as lists
+use Rattle.std.proofs.lemmas.Option.{slice_get_within, get_or_from_slice_get}
+use Rattle.std.specs.Prelude.{slice_get, Some}
+use Rattle.elem_cubes.specs.Cells.{Factor}
+use Rattle.elem_cubes.specs.Faces.{IsFace, closure_of}
+use Rattle.elem_cubes.specs.Laws.{cell_at}
+use Rattle.elem_cubes.proofs.Listing.{closures_are_faces}
+use Rattle.elem_cubes.proofs.Members.{In, In-from, from-In, left-In, right-In}
+use Rattle.cell_complex.specs.Sorted.{IsSortedCells}
+use Rattle.cell_complex.proofs.Sorting.{apart}
+use Rattle.excision.specs.Owners.{Names, AreOwners}
+
+-- ---- one more owner
+
+pub grown : {A : Type 0} (xs : List A) (y : A) (z : A) → Contains xs z → Contains (xs ++ y ∷ []) z
+grown xs y z w = from-In (xs ++ y ∷ []) z (left-In xs (y ∷ []) z (In-from xs z w))
+
+pub last : {A : Type 0} (xs : List A) (y : A) → Contains (xs ++ y ∷ []) y
+last xs y = from-In (xs ++ y ∷ []) y (right-In xs (y ∷ []) y (inl refl))
+
+pub listed : {A : Type 0} (f : A → List ℕ) (xs : List A) (old : List (List ℕ)) (n : ℕ) → map f xs ≡ old → n < length old → n < length xs
+listed f xs old n e l = let a = ap length e in let b = length-map xs f in omega arith
+
+module _ {A : Type 0} (f : A → List ℕ) (xs now : List A) (old : List (List ℕ)) (i d : ℕ) (y z : A) (c : ℕ) (seen : map f xs ≡ old) (inside : i < length xs) (same : i ≡ d)
+    (there : z ≡ get_or xs i z) (more : f y ≡ f z ++ c ∷ []) (changed : now ≡ set xs i y) where
+  pub push_count : length (map f now) ≡ length old
+  push_count = length-map now f ∙ ap length changed ∙ length-set xs i y ∙ sym (length-map xs f) ∙ ap length seen
+
+  here : get_or (map f now) i [] ≡ get_or old i [] ++ c ∷ []
+  here = ap (λ (l : List A). get_or (map f l) i []) changed ∙ ap (λ (l : List (List ℕ)). get_or l i []) (map-set f xs i y)
+      ∙ get_or-set_same (map f xs) i (f y) [] (subst (λ (l : ℕ). i < l) (sym (length-map xs f)) inside)
+      ∙ more ∙ ap (λ (l : List ℕ). l ++ c ∷ []) (ap f there ∙ sym (lists.get_or-map f xs i z [] inside) ∙ ap (λ (l : List (List ℕ)). get_or l i []) seen)
+
+  other : (n : ℕ) → n ≢ i → get_or (map f now) n [] ≡ get_or old n []
+  other n e = ap (λ (l : List A). get_or (map f l) n []) changed ∙ ap (λ (l : List (List ℕ)). get_or l n []) (map-set f xs i y)
+      ∙ get_or-set_other (map f xs) i n (f y) [] e ∙ ap (λ (l : List (List ℕ)). get_or l n []) seen
+
+  pub push_kept : (n j : ℕ) → Names old n j → Names (map f now) n j
+  push_kept n j w = ⊎_elim
+      (λ e. subst (λ (m : ℕ). Contains (get_or (map f now) m []) j) (sym e) (subst (λ (l : List ℕ). Contains l j) (sym here) (grown (get_or old i []) c j (subst (λ (m : ℕ). Contains (get_or old m []) j) e w))))
+      (λ d. subst (λ (l : List ℕ). Contains l j) (sym (other n d)) w)
+      (cases_eq n i)
+
+  pub push_added : Names (map f now) d c
+  push_added = subst (λ (m : ℕ). Contains (get_or (map f now) m []) c) same (subst (λ (l : List ℕ). Contains l c) (sym here) (last (get_or old i []) c))
+
+-- ---- the owner of all faces of a cell
+
+pub record AddedTo (cells : List (List Factor)) (q : List Factor) (member : ℕ) (old now : List (List ℕ)) (rest : List (List Factor)) : Type 0 where
+  pub count : length now ≡ length old
+  pub kept : (n j : ℕ) → Names old n j → Names now n j
+  pub added : (n : ℕ) → n < length cells → IsFace q (cell_at cells n) → In rest (cell_at cells n) ⊎ Names now n member
+
+pub added_first : (cells : List (List Factor)) (q : List Factor) (member : ℕ) (old now : List (List ℕ)) (rest : List (List Factor)) → rest ≡ closure_of q → now ≡ old → AddedTo cells q member old now rest
+added_first cells q member old now rest e same = record {
+  count = ap length same;
+  kept = λ n j w. subst (λ (l : List (List ℕ)). Names l n j) (sym same) w;
+  added = λ n l f. inl (subst (λ (xs : List (List Factor)). In xs (cell_at cells n)) (sym e) (In-from (closure_of q) (cell_at cells n) ((closures_are_faces.faces q (cell_at cells n)).1 f)));
+}
+
+module _ (cells : List (List Factor)) (q : List Factor) (member : ℕ) (old now : List (List ℕ)) (rest next : List (List Factor)) (c : List Factor) (e : rest ≡ c ∷ next) (s : AddedTo cells q member old now rest) where
+  pub added_skip : ¬ Contains cells c → AddedTo cells q member old now next
+  added_skip none = record {
+    count = s.count;
+    kept = s.kept;
+    added = λ n l f. ⊎_elim
+        (λ i. ⊎_elim
+        (λ k. absurd (none (n, l, at n l ∙ sym k)))
+        (λ i. inl i)
+        (subst (λ (xs : List (List Factor)). In xs (cell_at cells n)) e i))
+        (λ w. inr w)
+        (s.added n l f);
+  }
+    where
+      at : (n : ℕ) → n < length cells → get_or cells n c ≡ cell_at cells n
+      at n l = lists.get_or_default cells n c [] l
+
+  pub added_more : (new : List (List ℕ)) (k : ℕ) → IsSortedCells cells → slice_get cells k ≡ Some c → length new ≡ length now → ((n j : ℕ) → Names now n j → Names new n j) → Names new k member → AddedTo cells q member old new next
+  added_more new k sorted place count kept named = record {
+    count = count ∙ s.count;
+    kept = λ n j w. kept n j (s.kept n j w);
+    added = λ n l f. ⊎_elim
+        (λ i. ⊎_elim
+        (λ x. inr (subst (λ (m : ℕ). Names new m member) (apart cells sorted.sorted k n (slice_get_within cells k c place) l (get_or_from_slice_get cells k c [] place ∙ x)) named))
+        (λ i. inl i)
+        (subst (λ (xs : List (List Factor)). In xs (cell_at cells n)) e i))
+        (λ w. inr (kept n member w))
+        (s.added n l f);
+  }
+
+pub added_end : (cells : List (List Factor)) (q : List Factor) (member : ℕ) (old now : List (List ℕ)) (rest : List (List Factor)) → rest ≡ [] → AddedTo cells q member old now rest
+    → (n : ℕ) → n < length cells → IsFace q (cell_at cells n) → Names now n member
+added_end cells q member old now rest e s n l f = ⊎_elim (λ i. absurd (subst (λ (xs : List (List Factor)). In xs (cell_at cells n)) e i)) (λ w. w) (s.added n l f)
+
+-- ---- the owners of the first members
+
+pub record OwnersTo (cells x : List (List Factor)) (lists : List (List ℕ)) (i : ℕ) : Type 0 where
+  pub count : length lists ≡ length cells
+  pub owners : (n j : ℕ) → n < length cells → j < i → IsFace (cell_at x j) (cell_at cells n) → Names lists n j
+
+pub owners_next : (cells x : List (List Factor)) (lists new : List (List ℕ)) (i : ℕ) (q : List Factor) → slice_get x i ≡ Some q → OwnersTo cells x lists i → length new ≡ length lists
+    → ((n j : ℕ) → Names lists n j → Names new n j) → ((n : ℕ) → n < length cells → IsFace q (cell_at cells n) → Names new n i) → OwnersTo cells x new (i + 1)
+owners_next cells x lists new i q place s count kept added = record {
+  count = count ∙ s.count;
+  owners = λ n j l k f. ⊎_elim
+      (λ lt. kept n j (s.owners n j l lt f))
+      (λ ge. let e : i ≡ j = omega arith in subst (λ (m : ℕ). Names new n m) e (added n l (subst (λ (c : List Factor). IsFace c (cell_at cells n)) (ap (cell_at x) (sym e) ∙ get_or_from_slice_get x i q [] place) f)))
+      (cases_lt j i);
+}

@@ -1,0 +1,86 @@
+//! The members of a set, by the numbers of their cells.
+ghost use Rattle.std.specs.Prelude.{◌≡◌, ℕ, ◌<◌, [], List, length, slice_index_or, IfOk, OnOk};
+ghost use Rattle.elem_cubes.specs.Faces.{IsFace};
+ghost use Rattle.elem_cubes.specs.Laws.{cell_at};
+ghost use Rattle.excision.specs.Owners.{Names, AreOwners};
+
+use cell_complex::Numbered;
+use cube_sets::CubeSet;
+use elem_cubes::Cell;
+use smallvec::SmallVec;
+use std::alloc::{AllocError, Global};
+use std::marker::Model;
+
+/// For each number of a cell a list of places of members, seen as these lists.
+#[derive(Drop)]
+pub(crate) struct Owners {
+    lists: Vec<SmallVec<u32, 4>>,
+}
+
+impl Model for Owners {
+    ghost use Rattle.std.specs.Prelude.{List, ℕ, map};
+
+    ghost Value = { List (List ℕ) };
+
+    ghost view = { λ o. map (λ l. l.items) o.lists.items };
+}
+
+impl Owners {
+    /// The owners of all cells: the members that have them as faces.
+    pub(crate) fn of(alloc: Global, cells: &Numbered, x: &CubeSet) -> Result<Owners, AllocError>
+        ensures count { IfOk result (λ o. length o ≡ length cells.now) }
+        ensures owners { IfOk result (AreOwners cells.now x.now.cells) }
+    {
+        let mut owners = Owners::none(alloc, cells.len())?;
+        for member in 0..x.len() {
+            owners.add(cells, &x.cell(member), member)?;
+        }
+        Ok(owners)
+    }
+
+    // Lists without owners.
+    fn none(alloc: Global, count: u32) -> Result<Owners, AllocError>
+        ensures { IfOk result (λ o. length o ≡ count) }
+    {
+        let mut lists = Vec::with_capacity(alloc, count as usize)?;
+        for _ in 0..count {
+            lists.push(SmallVec::new(alloc))?;
+        }
+        Ok(Owners { lists })
+    }
+
+    // A member is one of the owners of each of its cells.
+    fn add(&mut self, cells: &Numbered, cell: &Cell, member: u32) -> Result<(), AllocError>
+        requires { length self.old ≡ length cells.now }
+        ensures count { OnOk result (length self.new ≡ length self.old) }
+        ensures kept { OnOk result ((n j : ℕ) → Names self.old n j → Names self.new n j) }
+        ensures added { OnOk result ((n : ℕ) → n < length cells.now → IsFace cell.now (cell_at cells.now n) → Names self.new n member) }
+    {
+        for face in cell.closure() {
+            let Some(number) = cells.number(&face) else {
+                continue;
+            };
+            self.push(number, member)?;
+        }
+        Ok(())
+    }
+
+    // One more owner of a cell.
+    fn push(&mut self, number: u32, member: u32) -> Result<(), AllocError>
+        requires { number < length self.old }
+        ensures count { OnOk result (length self.new ≡ length self.old) }
+        ensures kept { OnOk result ((n j : ℕ) → Names self.old n j → Names self.new n j) }
+        ensures added { OnOk result (Names self.new number member) }
+    {
+        self.lists[number as usize].push(member)?;
+        Ok(())
+    }
+
+    /// The owners of a cell.
+    pub(crate) fn of_number(&self, number: u32) -> &[u32]
+        requires { number < length self.now }
+        ensures { result.now ≡ slice_index_or self.now number [] }
+    {
+        self.lists[number as usize].as_slice()
+    }
+}

@@ -1,0 +1,4 @@
+pub mod Pairing
+pub mod Finding
+pub mod Taking
+pub mod Turning

@@ -1,0 +1,64 @@
+//! Collapses by free faces, as steps of a log.
+ghost use Rattle.std.specs.Prelude.{◌≡◌, IfOk};
+ghost use Rattle.cell_complex.specs.FreePairs.{AreFreeInTurn, HasNoFreePair};
+ghost use Rattle.cell_complex.specs.Numbering.{IsComplexOf};
+ghost use Rattle.excision.specs.Left.{is_left};
+ghost use Rattle.face_reduction.specs.Logs.{IsGrowthThenCollapse, IsCollapse, TakesPairs};
+
+use crate::free_pairs::{next_free, wake_facets};
+use algebraic_reduction::Log;
+use cell_complex::Numbered;
+use elem_cubes::Cell;
+use excision::Waiting;
+use field_mod::Field;
+use std::alloc::{AllocError, Global};
+
+/// Further steps by free pairs, until no pair of the cells that are left is free. The first steps of the log take exactly
+/// the faces of some cubes, and the later ones take free pairs. A cell is looked at at first, and again after a pair was taken
+/// that had it as a facet. Where memory is wanting the log is consumed.
+pub fn collapse<const P: u16>(
+    alloc: Global,
+    field: Field<P>,
+    log: Log<P>,
+    cells: &Numbered,
+) -> Result<Log<P>, AllocError>
+    requires complex { IsComplexOf P cells.now log.complex }
+    requires steps { IsGrowthThenCollapse cells.now log.steps }
+    ensures complex { IfOk result (λ l. l.complex ≡ log.entry.complex) }
+    ensures collapse { IfOk result (λ l. IsCollapse cells.now log.entry.steps l.steps) }
+    ensures none_free { IfOk result (λ l. HasNoFreePair (is_left cells.now l.steps)) }
+{
+    let mut log = log;
+    let mut waiting = Waiting::below(alloc, cells.len())?;
+    'pairs: while let Some(pair) = next_free(&log, cells, &mut waiting) {
+        let _ = log.step_count();
+        log = log.reduce_pair(field, pair.0, pair.1)?;
+        wake_facets(cells, &cells.cell(pair.0), &mut waiting)?;
+        wake_facets(cells, &cells.cell(pair.1), &mut waiting)?;
+    }
+    Ok(log)
+}
+
+/// One more step for each of these pairs, each of which is free at its turn. Where memory is wanting the log is consumed.
+pub fn take_pairs<const P: u16>(
+    log: Log<P>,
+    field: Field<P>,
+    cells: &Numbered,
+    pairs: &[(Cell, Cell)],
+) -> Result<Log<P>, AllocError>
+    requires complex { IsComplexOf P cells.now log.complex }
+    requires steps { IsGrowthThenCollapse cells.now log.steps }
+    requires free { AreFreeInTurn (is_left cells.now log.steps) pairs.now }
+    ensures complex { IfOk result (λ l. l.complex ≡ log.entry.complex) }
+    ensures taken { IfOk result (λ l. TakesPairs cells.now pairs.now log.entry.steps l.steps) }
+{
+    let _ = cells.len();
+    let mut log = log;
+    for pair in pairs {
+        let _ = log.step_count();
+        let face = cells.number(&pair.0).unwrap();
+        let coface = cells.number(&pair.1).unwrap();
+        log = log.reduce_pair(field, face, coface)?;
+    }
+    Ok(log)
+}

@@ -1,0 +1,9 @@
+//! Collapses by free faces.
+#![tactic(auto)]
+
+mod collapsing;
+mod free_pairs;
+mod laws;
+
+pub use collapsing::{collapse, take_pairs};
+pub use laws::{collapses_go_on, collapses_leave_restrictions, free_pairs_are_units};
