@@ -8,10 +8,8 @@ mod classes;
 mod cycles;
 mod making;
 mod prepared;
-mod reduced;
 
 pub use bases::Basis;
 pub use cycles::CycleBasis;
 pub use making::{basis, cycle_basis};
 pub use prepared::{Prepared, prepare};
-pub use reduced::{ReducedPair, reduced_pair};

@@ -1,4 +1,5 @@
 //! Reports and their texts.
+use cell_complex::CellList;
 use elem_cubes::{Cell, Corner};
 use faults::Terms;
 use grid_files::{CUBES, Kind, read_set, write_set};
@@ -9,6 +10,7 @@ use std::test::Fail;
 const PLAIN: Shown = Shown {
     modulus: 2,
     cycles: false,
+    stats: false,
 };
 
 fn cell(lower: &[i32], axes: u8) -> Option<Cell> {
@@ -44,6 +46,9 @@ fn border(alloc: Global) -> Result<Report, Fail> {
     Ok(Report::Pair(PairReport {
         dimensions: Dimensions::of(vec![in alloc; 1, 1, 0]?),
         cycles: Cycles::of(Cycles::of(by_degree).into_vec()),
+        cells: 8,
+        grown: CellList::new(alloc),
+        left: CellList::new(alloc),
     }))
 }
 
@@ -53,7 +58,13 @@ fn groups_are_printed_by_degree(rt: HostRuntime) -> Result<(), Fail> {
     let by_degree = vec![in alloc; 1, 0, 1600]?;
     let dimensions = Dimensions::of(Dimensions::of(by_degree).into_vec());
     let cycles = Cycles::of(Vec::new(alloc));
-    let report = Report::Pair(PairReport { dimensions, cycles });
+    let report = Report::Pair(PairReport {
+        dimensions,
+        cycles,
+        cells: 1602,
+        grown: CellList::new(alloc),
+        left: CellList::new(alloc),
+    });
     let text = text(alloc, &report, &PLAIN)?;
     let wanted = "H_0 = Z_2\nH_1 = 0\nH_2 = Z_2^1600\n";
     assert_eq!(rt; text.as_slice(), wanted.as_bytes());
@@ -66,10 +77,11 @@ fn cycles_follow_their_group(rt: HostRuntime) -> Result<(), Fail> {
     let shown = Shown {
         modulus: 3,
         cycles: true,
+        stats: true,
     };
     let text = text(alloc, &border(alloc)?, &shown)?;
     let wanted =
-        "H_0 = Z_3\nz_0_1 = 1 * [(0 0)(0 0)]\nH_1 = Z_3\nz_1_1 = 1 * [(0 0)(0 1)] + 2 * [(0 0)(1 0)] + 1 * [(0 1)(1 1)] + 2 * [(1 0)(1 1)]\nH_2 = 0\n";
+        "H_0 = Z_3\nz_0_1 = 1 * [(0 0)(0 0)]\nH_1 = Z_3\nz_1_1 = 1 * [(0 0)(0 1)] + 2 * [(0 0)(1 0)] + 1 * [(0 1)(1 1)] + 2 * [(1 0)(1 1)]\nH_2 = 0\ncells 8\ngrown 0\nleft 0\n";
     assert_eq!(rt; text.as_slice(), wanted.as_bytes());
     Ok(())
 }
@@ -97,6 +109,7 @@ fn generators_are_printed_by_number(rt: HostRuntime) -> Result<(), Fail> {
     let shown = Shown {
         modulus: 97,
         cycles: true,
+        stats: true,
     };
     let text = text(alloc, &report, &shown)?;
     let wanted = "H_0 = 0\nH_1 = Z_97^2\nz_1_1 = 1 * #1 + 96 * #4\nz_1_2 = 1 * #10\n";

@@ -178,7 +178,7 @@ const PAIRS_AND_MODULI: [Row; 9] = [
 ];
 
 // In degree 0 any point of a piece would be right; these are the ones that are left today.
-const WITH_CYCLES: [Row; 7] = [
+const WITH_CYCLES_OR_COUNTS: [Row; 10] = [
     Row {
         words: &["homcubes", "x", "a", "--cycles"],
         out: "H_0 = 0\nH_1 = Z_2\nz_1_1 = 1 * [(0)(1)]\n",
@@ -195,7 +195,7 @@ const WITH_CYCLES: [Row; 7] = [
     },
     Row {
         words: &["homcubes", "--cycles", "q"],
-        out: "H_0 = Z_2\nz_0_1 = 1 * [(0 0)(0 0)]\nH_1 = 0\nH_2 = 0\n",
+        out: "H_0 = Z_2\nz_0_1 = 1 * [(1 1)(1 1)]\nH_1 = 0\nH_2 = 0\n",
         ..DONE
     },
     Row {
@@ -210,7 +210,22 @@ const WITH_CYCLES: [Row; 7] = [
     },
     Row {
         words: &["homcubes", "two", "--cycles"],
-        out: "H_0 = Z_2^2\nz_0_1 = 1 * [(0)(0)]\nz_0_2 = 1 * [(5)(5)]\nH_1 = 0\n",
+        out: "H_0 = Z_2^2\nz_0_1 = 1 * [(1)(1)]\nz_0_2 = 1 * [(6)(6)]\nH_1 = 0\n",
+        ..DONE
+    },
+    Row {
+        words: &["homcubes", "q", "--stats"],
+        out: "H_0 = Z_2\nH_1 = 0\nH_2 = 0\ncells 9\ngrown 0\nleft 1\n",
+        ..DONE
+    },
+    Row {
+        words: &["homcubes", "--stats", "x", "v"],
+        out: "H_0 = 0\nH_1 = 0\ncells 2\ngrown 1\nleft 0\n",
+        ..DONE
+    },
+    Row {
+        words: &["homcubes", "x", "a", "--stats", "--cycles"],
+        out: "H_0 = 0\nH_1 = Z_2\nz_1_1 = 1 * [(0)(1)]\ncells 1\ngrown 0\nleft 1\n",
         ..DONE
     },
 ];
@@ -357,8 +372,8 @@ fn pairs_and_moduli_have_their_homology(rt: HostRuntime) -> Result<(), Fail> {
 }
 
 #[test]
-fn cycles_are_printed_where_asked(rt: HostRuntime) -> Result<(), Fail> {
-    all_answer(&rt, rt.alloc(), &FILES, &WITH_CYCLES)
+fn cycles_and_counts_are_printed_where_asked(rt: HostRuntime) -> Result<(), Fail> {
+    all_answer(&rt, rt.alloc(), &FILES, &WITH_CYCLES_OR_COUNTS)
 }
 
 #[test]
