@@ -1,14 +1,12 @@
 -- What a carrier keeps: how many cells its sets have, their dimension, and what it is.
-use Rattle.std.proofs.Common.{◌≡◌, ◌⊎◌, inl, inr, ⊎_elim, ℕ, ◌+◌, ◌<◌, ◌≤◌, ◌^◌, max, refl, sym, ap, ◌∙◌, subst, arith, List, [], ◌∷◌, ◌++◌, length, Bool, true, false, ◌&&◌, ◌||◌, IsTrue}
+use Rattle.std.proofs.Common.{◌≡◌, ⊎_elim, ℕ, ◌+◌, ◌<◌, ◌≤◌, ◌^◌, max, refl, sym, ap, ◌∙◌, subst, arith, List, ◌++◌, length, Bool, true, false, ◌||◌}
 use Rattle.std.specs.Prelude.{◌==◌}
-use Rattle.std.specs.List.{Contains, list_any, list_all}
-use Rattle.std.specs.List.Sorted.{IsStrictlySortedBy}
+use Rattle.std.specs.List.{Contains, list_all}
 use Rattle.std.proofs.lemmas.Bool.{and_parts, eqb-true}
 use Rattle.std.proofs.lemmas.Bool.Decides.{nat_tests}
 use Rattle.std.proofs.lemmas.List.Folds.{list_any-append}
 use Rattle.elem_cubes.specs.Cells.{Factor, is_file_factor}
 use Rattle.elem_cubes.specs.Faces.{is_face}
-use Rattle.elem_cubes.specs.Order.{cell_cmp}
 use Rattle.elem_cubes.proofs.FaceLemmas.{face_refl}
 use Rattle.elem_cubes.proofs.Members.{In-from, from-In}
 use Rattle.cube_sets.specs.Sets.{Members, IsCubeSet, is_member, dimensions_agree}

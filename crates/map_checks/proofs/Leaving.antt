@@ -1,5 +1,5 @@
 -- Values of cubes inside a set and outside it.
-use Rattle.std.proofs.Common.{◌≡◌, ◌⊎◌, inl, inr, ⊎_elim, ℕ, refl, sym, ap, ◌∙◌, subst, arith, List, [], ◌∷◌, length, Bool, true, false, ◌||◌, if◌then◌else◌, Option, Some, None}
+use Rattle.std.proofs.Common.{◌≡◌, ⊎_elim, refl, sym, ap, ◌∙◌, subst, arith, List, [], ◌∷◌, length, Bool, true, false, ◌||◌, if◌then◌else◌, Option, Some, None}
 use Rattle.std.specs.List.{Contains, AllByRecursion}
 use Rattle.std.specs.List.Sorted.{IsStrictlySortedBy}
 use Rattle.std.proofs.lemmas.Bool.{true≢false, cases_Bool}
@@ -14,7 +14,7 @@ use Rattle.cube_maps.specs.CubeMaps.{Naming, Mapping, IsCubeMap, names, value_of
 use Rattle.cube_maps.proofs.Made.{no_value}
 use Rattle.acyclic_values.specs.CarriedMaps.{GoesInto}
 use Rattle.map_checks.specs.Firsts.{IsFirstOf, IsFirst, lower_one}
-use Rattle.map_checks.specs.Faults.{together, AreNamed, IsOutside, Leaves, IsFirstOutside}
+use Rattle.map_checks.specs.Faults.{together, AreNamed, Leaves, IsFirstOutside}
 use Rattle.map_checks.proofs.Firsts.{first_of_both}
 
 -- ---- values

@@ -1,18 +1,16 @@
 -- The value at a cell, while it is cut down by one cube round the cell after the other.
-use Rattle.std.proofs.Common.{◌≡◌, ◌↔◌, ◌⊎◌, inl, inr, ⊎_elim, ℕ, suc, ◌+◌, ◌<◌, ◌≤◌, ◌^◌, refl, sym, ap, ◌∙◌, subst, arith, List, [], ◌∷◌, ◌++◌, length, filter, Bool, true, false, ◌&&◌, ◌||◌, if◌then◌else◌, Option, Some, None, IsTrue, length-append}
+use Rattle.std.proofs.Common.{◌≡◌, ◌↔◌, ◌⊎◌, inl, inr, ⊎_elim, ℕ, suc, ◌<◌, ◌≤◌, ◌^◌, refl, sym, ap, ◌∙◌, subst, arith, List, [], ◌∷◌, length, filter, Bool, true, false, ◌&&◌, if◌then◌else◌, Option, Some, None, IsTrue, length-append}
 use Rattle.std.specs.Prelude.{IfSome}
-use Rattle.std.specs.List.{Contains, list_all, AllByRecursion, flat_map}
+use Rattle.std.specs.List.{Contains, list_all}
 use Rattle.std.specs.List.Sorted.{IsStrictlySortedBy}
-use Rattle.std.proofs.lemmas.Bool.{true≢false, cases_Bool, and_parts, or_cases, cond_both}
-use Rattle.elem_cubes.specs.declared.range.TheConstants.{MAX_EMBEDDING}
+use Rattle.std.proofs.lemmas.Bool.{true≢false, and_parts, or_cases, cond_both}
 use Rattle.elem_cubes.specs.Cells.{Factor, is_wide, is_file_factor, same_cell}
-use Rattle.elem_cubes.specs.Faces.{IsFace, is_face}
 use Rattle.elem_cubes.specs.Order.{cell_cmp}
 use Rattle.elem_cubes.specs.OrderLemmas.{cell_cmp_total}
 use Rattle.elem_cubes.specs.Covers.{covers_of}
 use Rattle.elem_cubes.proofs.Covering.{to_cover}
 use Rattle.elem_cubes.proofs.Covering as covers
-use Rattle.elem_cubes.proofs.Members.{In, In-from, from-In}
+use Rattle.elem_cubes.proofs.Members.{In, from-In}
 use Rattle.elem_cubes.proofs.Ranges.{face_range}
 use Rattle.elem_cubes.specs.Corners.{is_file_end}
 use Rattle.cube_sets.specs.Sorted.{has, intersection_of}
@@ -24,10 +22,9 @@ use Rattle.cube_sets.proofs.Covering.{cells_are_faces}
 use Rattle.cell_complex.proofs.Deciding.{has_is, has_from, from_has, cell_true}
 use Rattle.cube_maps.specs.CubeMaps.{Naming, Mapping, IsCubeMap, names, value_of, is_naming, is_full_member, pairs_of}
 use Rattle.acyclic_values.specs.Values.{InValue, IsValueAt}
-use Rattle.acyclic_values.proofs.Cells.{all_In, In_all, cell_in}
+use Rattle.acyclic_values.proofs.Cells.{all_In, cell_in}
 use Rattle.map_checks.specs.Faults.{AreNamed}
 use Rattle.map_checks.specs.Narrowed.{narrowed_by}
-use Rattle.map_checks.proofs.Leaving.{value_sorted}
 
 -- ---- what a map gives
 

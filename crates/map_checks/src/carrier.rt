@@ -126,7 +126,9 @@ pub fn check_values<const P: u16>(
     if let Err(fault) = check_cells(alloc, field, map, &domain, domain_cells.cells()) {
         return Err(fault);
     }
-    let dimension = map.dimension().max(domain.dimension().max(range.dimension()));
+    let dimension = map
+        .dimension()
+        .max(domain.dimension().max(range.dimension()));
     let map = map.copy(alloc)?;
     Ok(Carrier {
         map,

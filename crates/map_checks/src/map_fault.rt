@@ -7,11 +7,19 @@ use std::alloc::AllocError;
 #[derive(Drop)]
 pub enum MapFault<const P: u16> {
     /// The map does not name this cube of the domain.
-    Undefined { cube: Cell },
+    Undefined {
+        cube: Cell,
+    },
     /// This value of a cube of the domain is not in the range.
-    LeavesRange { cube: Cell, value: Cell },
+    LeavesRange {
+        cube: Cell,
+        value: Cell,
+    },
     /// This value of a cube of the domain's subset is not in that of the range.
-    NotCarried { cube: Cell, value: Cell },
+    NotCarried {
+        cube: Cell,
+        value: Cell,
+    },
     /// The value at this cell of the domain is not acyclic, as the hole shows.
     NotAcyclic {
         cell: Cell,

@@ -1,4 +1,4 @@
-use Rattle.std.proofs.Common.{◌≡◌, ℕ, ◌<◌, false}
+use Rattle.std.proofs.Common.{ℕ, ◌<◌}
 use Rattle.elem_cubes.specs.Laws.{cell_at}
 use Rattle.map_checks.specs.Faults.{together, Leaves}
 use Rattle.map_checks.proofs.sets.first_leaving.Given as goal

@@ -1,6 +1,5 @@
-use Rattle.std.proofs.Common.{◌≡◌, ◌∙◌, sym, ap, subst}
-use Rattle.elem_cubes.specs.Cells.{Factor}
-use Rattle.map_checks.specs.Firsts.{IsFirstOf, IsFirst, lower_one}
+use Rattle.std.proofs.Common.{sym, subst}
+use Rattle.map_checks.specs.Firsts.{IsFirst}
 use Rattle.map_checks.specs.Faults.{together, Leaves}
 use Rattle.map_checks.proofs.Firsts.{first_of_both}
 use Rattle.map_checks.proofs.Leaving.{goes_into, stays, first_cube}
