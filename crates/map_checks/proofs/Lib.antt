@@ -1,0 +1,5 @@
+pub mod Firsts
+pub mod Leaving
+pub mod Narrowing
+pub mod Hollow
+pub mod Keeping

@@ -1,0 +1,4 @@
+pub mod Firsts
+pub mod Narrowed
+pub mod Faults
+pub mod Carriers

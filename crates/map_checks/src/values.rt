@@ -1,0 +1,64 @@
+//! Whether the values of a map at cells are acyclic.
+ghost use Rattle.std.specs.Prelude.{◌≡◌, List, true, OnOk, IfErr, IsTrue};
+ghost use Rattle.elem_cubes.specs.Cells.{Factor};
+ghost use Rattle.cube_sets.specs.Closures.{is_cell_of, cells_of};
+ghost use Rattle.map_checks.specs.Faults.{AreNamed, IsAcyclicAt, IsFaultAt, IsFirstHollow};
+
+use crate::map_fault::MapFault;
+use crate::value::value_set;
+use acyclic_values::{ValueFault, contract_value};
+use cube_maps::CubeMap;
+use cube_sets::CubeSet;
+use elem_cubes::Cell;
+use field_mod::Field;
+use std::alloc::Global;
+
+// Whether the value at a cell of the domain is acyclic, else a hole of it.
+fn check_value<const P: u16>(
+    alloc: Global,
+    field: Field<P>,
+    map: &CubeMap,
+    domain: &CubeSet,
+    cell: &Cell,
+) -> Result<(), MapFault<P>>
+    requires cell { IsTrue (is_cell_of domain.now.cells cell.now) }
+    requires named { AreNamed map.now.named domain.now.cells }
+    ensures ok { OnOk result (IsAcyclicAt P map.now.named domain.now.cells cell.now) }
+    ensures err { IfErr result (IsFaultAt P map.now.named domain.now.cells cell.now) }
+{
+    let set = value_set(alloc, map, domain, cell)?;
+    match contract_value(alloc, field, set.cells()) {
+        Ok(_) => Ok(()),
+        Err(ValueFault::NoMemory) => Err(MapFault::NoMemory),
+        Err(ValueFault::Hole(hole)) => {
+            let value = Vec::from_slice(alloc, set.cells())?;
+            Err(MapFault::NotAcyclic {
+                cell: *cell,
+                value,
+                hole,
+            })
+        }
+    }
+}
+
+/// Whether the values at all cells of the domain are acyclic, else the first that is not. What is told of a cell is a function of
+/// the cell alone.
+pub(crate) fn check_cells<const P: u16>(
+    alloc: Global,
+    field: Field<P>,
+    map: &CubeMap,
+    domain: &CubeSet,
+    cells: &[Cell],
+) -> Result<(), MapFault<P>>
+    requires cells { cells.now ≡ cells_of domain.now.cells }
+    requires named { AreNamed map.now.named domain.now.cells }
+    ensures ok { OnOk result ((s : List Factor) → is_cell_of domain.now.cells s ≡ true → IsAcyclicAt P map.now.named domain.now.cells s) }
+    ensures err { IfErr result (IsFirstHollow P map.now.named domain.now.cells) }
+{
+    for cell in cells {
+        if let Err(fault) = check_value(alloc, field, map, domain, cell) {
+            return Err(fault);
+        }
+    }
+    Ok(())
+}
