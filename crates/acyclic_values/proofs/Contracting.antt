@@ -156,18 +156,21 @@ contractions_are_acyclic p V v g cl ct = record {
 
 -- ---- never both
 
-pub never_both : NeverBoth
-never_both p x k z w two ac h =
+-- the cycle of a hole is not null
+pub hole_not_null : (p : ℕ) (x : List (List Factor)) (k : ℕ) (z w : List Factor → ℕ) → 2 ≤ p → IsNull p (complex_of_set p x) k z → IsHole p x k z w → ⊥
+hole_not_null p x k z w two u h =
     let cs : List (List Factor) = cells_of x in
     let n = length cs in
     let ls : IsListing (is_cell_of x) cs = cells_listing x in
-    let u = ac.null k z h.cycle in
     let F : List Factor → ℕ = restriction_to (is_cell_of x) u.filling in
     let b = λ (i : ℕ) (l : i < n). let q : List Factor = cell_at cs i in same_trans (u.fills q (listed (is_cell_of x) cs ls i l)) (same_sym (boundary_at_is_boundary p cs F q ls.once (λ s f nz. ⊎_elim (λ e. found (is_cell_of x) cs ls s e) (λ e. absurd (nz (restriction-off (is_cell_of x) u.filling s e))) (cases_Bool (is_cell_of x s))))) in
     let a = total_same p n (λ i. z (cell_at cs i) * w (cell_at cs i)) (λ i. total n (λ j. F (cell_at cs j) * boundary_coefficient p (cell_at cs j) (cell_at cs i)) * w (cell_at cs i)) (λ i l. same-mul (b i l) (same_refl p (w (cell_at cs i)))) in
     let c = total_total n n (λ j. F (cell_at cs j)) (λ j i. boundary_coefficient p (cell_at cs j) (cell_at cs i)) (λ i. w (cell_at cs i)) in
     let d = total_none p n (λ j. F (cell_at cs j) * total n (λ i. boundary_coefficient p (cell_at cs j) (cell_at cs i) * w (cell_at cs i))) (λ j l. same_trans (same-scale (F (cell_at cs j)) (h.cocycle (cell_at cs j) (listed (is_cell_of x) cs ls j l))) (exact p (omega arith))) in
     one_nonzero p two (same_trans (same_sym h.product) (same_trans a (same_trans (exact p c) d)))
+
+pub never_both : NeverBoth
+never_both p x k z w two ac h = hole_not_null p x k z w two (ac.null k z h.cycle) h
 
 -- ---- steps on the complex of the cells
 

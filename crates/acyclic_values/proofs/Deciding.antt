@@ -1,5 +1,5 @@
 -- A list of cells is acyclic or has a hole: its complex has steps that leave no boundary, and what they leave decides.
-use Rattle.std.proofs.Common.{◌≡◌, ℕ, zero, suc, ◌+◌, ◌%◌, ◌^◌, ◌<◌, ◌≤◌, ◌⊎◌, inl, inr, refl, sym, ap, ◌∙◌, arith, ⊎_elim, cond, eq-eqb, ne_eqb, List, [], ◌∷◌, ◌++◌, length, get_or, map, subst, Option, Some, None}
+use Rattle.std.proofs.Common.{◌≡◌, ℕ, zero, suc, ◌+◌, ◌%◌, ◌^◌, ◌<◌, ◌≤◌, ◌⊎◌, inl, inr, refl, sym, ap, ◌∙◌, arith, ⊎_elim, cond, eq-eqb, ne_eqb, List, [], ◌∷◌, ◌++◌, length, get_or, map, subst, Option, Some, None, filter, Bool, true, false}
 use Rattle.std.proofs.lemmas.Bool.{cases_eq, cases_lt}
 use Rattle.std.proofs.lemmas.List.{get_or-map, length-map, get_or_past}
 use native.Mathlib.Nat.{mod-mod}
@@ -21,8 +21,11 @@ use Rattle.acyclic_values.specs.declared.hole.Hole.TheVariants.{Empty, Class}
 use Rattle.acyclic_values.specs.Contractions.{IsCellList, LeaveVertex, IsLeftVertex, IsFirstLeft}
 use Rattle.acyclic_values.specs.Contracted.{IsBestBelow, IsLower}
 use Rattle.acyclic_values.specs.Laws.{less_vertex}
-use Rattle.acyclic_values.specs.Deciding.{SomeHole, AcyclicOrHole}
-use Rattle.acyclic_values.proofs.Contracting.{cx, last_vertices_contract, some_vertex_is_left, contractions_are_acyclic, left_generators_are_holes}
+use Rattle.acyclic_values.specs.Deciding.{SomeHole, AcyclicOrHole, HolesHaveOneDegree, ValuesAreDecided}
+use Rattle.acyclic_values.specs.Values.{in_value}
+use Rattle.acyclic_values.proofs.Values.{value_to, value_from, values_closed, value_inside, value_list, value_list_is}
+use Rattle.cube_sets.specs.Closures.{cells_of}
+use Rattle.acyclic_values.proofs.Contracting.{cx, hole_not_null, last_vertices_contract, some_vertex_is_left, contractions_are_acyclic, left_generators_are_holes}
 use Rattle.acyclic_values.proofs.Making.{best_lower, best_same, hole_same, by_cell_same}
 use Rattle.acyclic_values.proofs.Reducing.{reductions_exist}
 
@@ -184,3 +187,32 @@ acyclic_or_hole p V field cl few =
     let ck : IsComplexOf p V K = is_complex_for p one V few in
     let r = reductions_exist p K field (cx p V K [] two cl ck tt) in
     decided p V K r.steps two cl ck r.made r.nothing
+
+-- ---- holes and values
+
+pub holes_have_one_degree : HolesHaveOneDegree
+holes_have_one_degree p x k l z w y v two h g = ⊎_elim
+    (λ less. absurd (hole_not_null p x k z w two (g.least k z less h.cycle) h))
+    (λ ge. ⊎_elim
+    (λ less. absurd (hole_not_null p x l y v two (h.least l y less g.cycle) g))
+    (λ le. omega (arith, ge, le))
+    (cases_lt l k))
+    (cases_lt k l)
+
+length-filtered : {X : Type 0} (test : X → Bool) (xs : List X) → length (filter test xs) ≤ length xs
+length-filtered test [] = omega arith
+length-filtered test (x ∷ xs) = elim (test x) as (λ b. length (cond b (x ∷ filter test xs) (filter test xs)) ≤ suc (length xs)) [
+  | true ↦ omega (arith, length-filtered test xs)
+  | false ↦ omega (arith, length-filtered test xs)
+]
+
+pub values_are_decided : ValuesAreDecided
+values_are_decided p map domain range s field into few here =
+    let V = value_list map domain range s in
+    let is = value_list_is map domain range s (λ g h. value_inside map domain domain range (λ q w. w) into s g here h) in
+    let closed : IsCellList V = record { sorted = is.sorted; closed = λ q r f w. (is.cells r).1 (value_to map domain s r (values_closed map domain s q r f (value_from map domain s q ((is.cells q).0 w)))) } in
+    record {
+      value = V;
+      is = is;
+      decided = acyclic_or_hole p V field closed (omega (arith, length-filtered (in_value map domain s) (cells_of range), few));
+    }
