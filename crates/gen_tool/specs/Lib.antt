@@ -1,0 +1,3 @@
+-- What the generator is asked to make.
+pub mod Summaries
+pub mod Jobs
