@@ -1,5 +1,5 @@
 -- The faces of a cell that a test tells, and those that a log leaves, gathered face by face
-use Rattle.std.proofs.Common.{◌≡◌, ◌↔◌, ℕ, zero, suc, ◌+◌, ◌^◌, ◌<◌, ◌≤◌, ◌⊎◌, inl, inr, refl, sym, ap, ◌∙◌, arith, ⊎_elim, List, [], ◌∷◌, ◌++◌, length, get_or, Bool, true, false, cond, subst, append_assoc, Result, Ok, Err, IfOk}
+use Rattle.std.proofs.Common.{◌≡◌, ◌↔◌, ℕ, zero, suc, ◌^◌, ◌<◌, ◌≤◌, ◌⊎◌, inl, inr, refl, sym, ap, ◌∙◌, arith, ⊎_elim, List, [], ◌∷◌, ◌++◌, length, Bool, true, false, cond, subst, append_assoc, Result, Ok, Err, IfOk}
 use Rattle.std.specs.List.{Contains, filter, list_all}
 use Rattle.std.specs.Cmp as cmp
 use Rattle.std.proofs.lemmas.Bool.{cases_Bool, both_ways}
@@ -29,8 +29,8 @@ use Rattle.cell_complex.proofs.Alike.{of_cells}
 use Rattle.cell_complex.proofs.Deciding.{has_is, has_from, from_has}
 use Rattle.cell_complex.proofs.Meeting.{cells_in-face, face-cells_in}
 use Rattle.cell_complex.proofs.Sorting.{apart}
-use Rattle.excision.specs.Left.{is_left, is_gone, IsMovableInto, IsClosedIn, IsLeftFace}
-use Rattle.excision.proofs.Leaving.{left_parts, left_from}
+use Rattle.excision.specs.Left.{is_left, IsMovableInto, IsClosedIn, IsLeftFace}
+use Rattle.excision.proofs.Leaving.{left_from}
 
 -- ---- the faces that a test tells
 

@@ -1,14 +1,14 @@
 -- The cells that a log leaves: by their numbers, and, of the cells of a set, as those that are no cells of the subset
-use Rattle.std.proofs.Common.{◌≡◌, ◌≢◌, ℕ, ◌<◌, inl, inr, refl, sym, ap, ◌∙◌, arith, ⊎_elim, List, [], ◌∷◌, ◌++◌, length, Bool, true, false, cond, ◌&&◌, ◌||◌, subst, eqb, eq-eqb, ne_eqb, Option, Some}
+use Rattle.std.proofs.Common.{◌≡◌, ℕ, ◌<◌, refl, sym, ap, ◌∙◌, ⊎_elim, List, [], ◌∷◌, ◌++◌, length, Bool, true, false, ◌&&◌, ◌||◌, subst, eqb, eq-eqb, ne_eqb, Some}
 use Rattle.std.specs.Prelude.{not, slice_get, IsTrue}
-use Rattle.std.specs.List.{Contains, filter, list_all}
+use Rattle.std.specs.List.{Contains, list_all}
 use Rattle.std.specs.Cmp as cmp
 use Rattle.std.proofs.lemmas.Bool.{true≢false, cases_Bool, both_ways, and_parts, and_from, not-true, false_from_ne_true}
 use Rattle.std.proofs.lemmas.List.Elements.{Contains-get_or}
 use Rattle.std.proofs.lemmas.List.Folds.{list_any-append}
 use Rattle.std.proofs.lemmas.Option.{slice_get_within, get_or_from_slice_get}
 use Rattle.elem_cubes.specs.Cells.{Factor, is_file_factor}
-use Rattle.elem_cubes.specs.Faces.{IsFace, is_face}
+use Rattle.elem_cubes.specs.Faces.{is_face}
 use Rattle.elem_cubes.specs.Order.{cell_cmp}
 use Rattle.elem_cubes.specs.Laws.{cell_at}
 use Rattle.elem_cubes.proofs.Conjunctions.{all_at}

@@ -9,3 +9,4 @@ pub mod Gone
 pub mod Parted
 pub mod Owning
 pub mod Moved
+pub mod Marking

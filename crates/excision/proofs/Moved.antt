@@ -1,27 +1,25 @@
 -- One move of a growth, and the members that wait
-use Rattle.std.proofs.Common.{◌≡◌, ◌≢◌, ◌↔◌, ℕ, ◌+◌, ◌<◌, ◌≤◌, ◌⊎◌, inl, inr, refl, sym, ap, ◌∙◌, arith, ⊎_elim, List, [], ◌∷◌, ◌++◌, length, get_or, Bool, true, false, cond, ◌||◌, subst, Option, Some, None, eqb}
+use Rattle.std.proofs.Common.{◌≡◌, ◌≢◌, ◌↔◌, ℕ, ◌+◌, ◌<◌, ◌≤◌, ◌⊎◌, refl, sym, ap, ◌∙◌, arith, ⊎_elim, List, [], ◌∷◌, ◌++◌, length, Bool, true, false, cond, ◌||◌, subst, Option, Some, None}
 use Rattle.std.specs.Prelude.{IfSome, IfNone, slice_get}
-use Rattle.std.specs.List.{Contains}
-use Rattle.std.specs.Ordering.{nat_cmp}
-use Rattle.std.specs.BTreeSet.{BTreeSet, contains}
+use Rattle.std.specs.List.{Contains, filter}
 use Rattle.std.specs.Cmp as cmp
-use Rattle.std.proofs.lemmas.Bool.{true≢false, cases_lt, cases_Bool, both_ways}
+use Rattle.std.proofs.lemmas.Bool.{true≢false, cases_lt, cases_Bool}
 use Rattle.std.proofs.lemmas.List.Folds.{list_any-append}
 use Rattle.std.proofs.lemmas.List.{get_or_default}
 use Rattle.field_mod.specs.Modular.{Same}
 use Rattle.elem_cubes.specs.Cells.{Factor}
-use Rattle.elem_cubes.specs.Faces.{IsFace, is_face}
+use Rattle.elem_cubes.specs.Faces.{IsFace, is_face, closure_of}
 use Rattle.elem_cubes.specs.OrderLemmas.{cell_cases}
 use Rattle.elem_cubes.specs.Laws.{cell_at}
 use Rattle.elem_cubes.proofs.FaceLemmas.{face_refl}
 use Rattle.chains.specs.ChainComplex.{ChainComplex}
 use Rattle.cube_sets.specs.Closures.{is_cell_of}
-use Rattle.algebraic_reduction.specs.Reduction.{Step, IsUnpaired}
+use Rattle.algebraic_reduction.specs.Reduction.{Step}
 use Rattle.algebraic_reduction.specs.Laws.{AreStepsOf, left_of}
 use Rattle.algebraic_reduction.specs.Restrictions.{IsClosedPart, AreWithin}
 use Rattle.cell_complex.specs.Sorted.{IsSortedCells}
 use Rattle.cell_complex.specs.Numbering.{IsRelativeComplex}
-use Rattle.cell_complex.specs.Growth.{IsMovable, IsGrowth}
+use Rattle.cell_complex.specs.Growth.{IsMovable, IsGrowth, IsFinishedGrowth}
 use Rattle.cell_complex.proofs.Deciding.{face_true, face_from}
 use Rattle.excision.specs.Left.{is_gone, IsMovableInto, IsLeftFace, is_one_of}
 use Rattle.excision.specs.Owners.{Names, AreOwners}
@@ -81,11 +79,11 @@ module _ (p : ℕ) (x a cells cubes : List (List Factor)) (K : ChainComplex) (ss
       (λ h g eh eg. subst (λ (us : List Step). Same p (left_of p K us h g) 0) f.steps (subst (λ (M : ChainComplex). Same p (left_of p M now h g) 0) e (z h g (one_of-Contains numbers h (same_part h ∙ eh)))))).1
 
   -- what has no new face in it may be moved after the move only where it might before
-  pub still_idle : (lists : List (List ℕ)) (old new : BTreeSet ℕ) → IsSortedCells cells → AreOwners cells x lists
-      → ((j : ℕ) → j < length x → contains nat_cmp old j ≡ false → cell_at x j ≢ q → ¬ IsMovableInto p (is_gone cells ss) (cell_at x j))
-      → ((j : ℕ) → contains nat_cmp old j ≡ true → contains nat_cmp new j ≡ true)
-      → ((n j : ℕ) → Contains numbers n → Names lists n j → contains nat_cmp new j ≡ true)
-      → (j : ℕ) → j < length x → contains nat_cmp new j ≡ false → ¬ IsMovable p (a ++ (cubes ++ q ∷ [])) (cell_at x j)
+  pub still_idle : (lists : List (List ℕ)) (old new : List ℕ) → IsSortedCells cells → AreOwners cells x lists
+      → ((j : ℕ) → j < length x → is_one_of old j ≡ false → cell_at x j ≢ q → ¬ IsMovableInto p (is_gone cells ss) (cell_at x j))
+      → ((j : ℕ) → is_one_of old j ≡ true → is_one_of new j ≡ true)
+      → ((n j : ℕ) → Contains numbers n → Names lists n j → is_one_of new j ≡ true)
+      → (j : ℕ) → j < length x → is_one_of new j ≡ false → ¬ IsMovable p (a ++ (cubes ++ q ∷ [])) (cell_at x j)
   still_idle lists old new sorted owners rest kept woken j inside idle m = ⊎_elim
       (λ e. true≢false (sym (one_more a cubes q q ∙ ap (λ b. is_cell_of (a ++ cubes) q || b) (face_from q q (face_refl q)) ∙ or_true (is_cell_of (a ++ cubes) q)) ∙ ap (is_cell_of (a ++ (cubes ++ q ∷ []))) (sym e) ∙ m.new))
       (λ d. rest j inside (was j idle) (λ e. true≢false (sym (ap (λ c. Rattle.elem_cubes.specs.Cells.same_cell c q) e ∙ Rattle.elem_cubes.specs.OrderLemmas.cell_refl q) ∙ d))
@@ -99,8 +97,8 @@ module _ (p : ℕ) (x a cells cubes : List (List Factor)) (K : ChainComplex) (ss
       here : Contains x (cell_at x j)
       here = (j, inside, get_or_default x j (cell_at x j) [] inside)
 
-      was : (k : ℕ) → contains nat_cmp new k ≡ false → contains nat_cmp old k ≡ false
-      was k f = ⊎_elim (λ t. absurd (true≢false (sym (kept k t) ∙ f))) (λ e. e) (cases_Bool (contains nat_cmp old k))
+      was : (k : ℕ) → is_one_of new k ≡ false → is_one_of old k ≡ false
+      was k f = ⊎_elim (λ t. absurd (true≢false (sym (kept k t) ∙ f))) (λ e. e) (cases_Bool (is_one_of old k))
 
       alike : (c : List Factor) → IsFace (cell_at x j) c → is_cell_of (a ++ (cubes ++ q ∷ [])) c ≡ is_cell_of (a ++ cubes) c
       alike c f = one_more a cubes q c ∙ ⊎_elim
@@ -118,19 +116,19 @@ module _ (p : ℕ) (x a cells cubes : List (List Factor)) (K : ChainComplex) (ss
 -- ---- the members that wait
 
 -- one less waits
-pub idle_next : (P : ℕ → Type 0) (n i : ℕ) (old new : BTreeSet ℕ) → ((k : ℕ) → contains nat_cmp old k ≡ true → (k ≡ i) ⊎ (contains nat_cmp new k ≡ true))
-    → ((j : ℕ) → j < n → contains nat_cmp old j ≡ false → ¬ P j) → (i < n → ¬ P i) → (j : ℕ) → j < n → contains nat_cmp new j ≡ false → ¬ P j
+pub idle_next : (P : ℕ → Type 0) (n i : ℕ) (old new : List ℕ) → ((k : ℕ) → is_one_of old k ≡ true → (k ≡ i) ⊎ (is_one_of new k ≡ true))
+    → ((j : ℕ) → j < n → is_one_of old j ≡ false → ¬ P j) → (i < n → ¬ P i) → (j : ℕ) → j < n → is_one_of new j ≡ false → ¬ P j
 idle_next P n i old new kept idle this j l f = ⊎_elim
     (λ t. ⊎_elim (λ e m. this (subst (λ (k : ℕ). k < n) e l) (subst P e m)) (λ w. absurd (true≢false (sym w ∙ f))) (kept j t))
     (λ d. idle j l d)
-    (cases_Bool (contains nat_cmp old j))
+    (cases_Bool (is_one_of old j))
 
-pub idle_but : (P : List Factor → Type 0) (x : List (List Factor)) (i : ℕ) (q : List Factor) (old new : BTreeSet ℕ) → slice_get x i ≡ Some q → ((k : ℕ) → contains nat_cmp old k ≡ true → (k ≡ i) ⊎ (contains nat_cmp new k ≡ true))
-    → ((j : ℕ) → j < length x → contains nat_cmp old j ≡ false → ¬ P (cell_at x j)) → (j : ℕ) → j < length x → contains nat_cmp new j ≡ false → cell_at x j ≢ q → ¬ P (cell_at x j)
+pub idle_but : (P : List Factor → Type 0) (x : List (List Factor)) (i : ℕ) (q : List Factor) (old new : List ℕ) → slice_get x i ≡ Some q → ((k : ℕ) → is_one_of old k ≡ true → (k ≡ i) ⊎ (is_one_of new k ≡ true))
+    → ((j : ℕ) → j < length x → is_one_of old j ≡ false → ¬ P (cell_at x j)) → (j : ℕ) → j < length x → is_one_of new j ≡ false → cell_at x j ≢ q → ¬ P (cell_at x j)
 idle_but P x i q old new place kept idle j l f d = ⊎_elim
     (λ t. ⊎_elim (λ e. absurd (d (ap (cell_at x) e ∙ Rattle.std.proofs.lemmas.Option.get_or_from_slice_get x i q [] place))) (λ w. absurd (true≢false (sym w ∙ f))) (kept j t))
     (λ g. idle j l g)
-    (cases_Bool (contains nat_cmp old j))
+    (cases_Bool (is_one_of old j))
 
 pub some_of : (o : Option (List Factor)) (P : List Factor → Type 0) (y : List Factor) → o ≡ Some y → IfSome o P → P y
 some_of o P y e h = let Q : Option (List Factor) → Type 0 = λ v. IfSome v P in subst Q e h
@@ -143,7 +141,7 @@ growth_first p x a cubes e = subst (λ (cs : List (List Factor)). IsGrowth p x a
 pub taken_first : (cells cubes : List (List Factor)) (ss : List Step) → cubes ≡ [] → ss ≡ [] → TakeFaces cells cubes ss
 taken_first cells cubes ss e f = subst (λ (cs : List (List Factor)). TakeFaces cells cs ss) (sym e) (subst (λ (us : List Step). TakeFaces cells [] us) (sym f) (λ i l. ((λ u. refl), (λ e. tt))))
 
-pub idle_first : (P : ℕ → Type 0) (n : ℕ) (w : BTreeSet ℕ) → ((j : ℕ) → j < n → contains nat_cmp w j ≡ true) → (j : ℕ) → j < n → contains nat_cmp w j ≡ false → ¬ P j
+pub idle_first : (P : ℕ → Type 0) (n : ℕ) (w : List ℕ) → ((j : ℕ) → j < n → is_one_of w j ≡ true) → (j : ℕ) → j < n → is_one_of w j ≡ false → ¬ P j
 idle_first P n w all j l f m = true≢false (sym (all j l) ∙ f)
 
 -- the list is another one with the same numbers
@@ -160,3 +158,19 @@ none_of o P e h = let Q : Option (List Factor) → Type 0 = λ v. IfNone v P in 
 -- a fact of the last place and of those before it
 pub up_to : (P : ℕ → Type 0) (i k : ℕ) → k < i + 1 → (k < i → P k) → P i → P k
 up_to P i k l before here = ⊎_elim (λ lt. before lt) (λ ge. subst P (let e : i ≡ k = omega arith in e) here) (cases_lt k i)
+
+-- ---- without a subset
+
+-- no member can be moved into nothing
+pub finished_alone : (p : ℕ) (x a cubes : List (List Factor)) → a ≡ [] → cubes ≡ [] → IsFinishedGrowth p x a cubes
+finished_alone p x a cubes e f = record {
+  growth = growth_first p x a cubes f;
+  finished = λ q w m. m.acyclic.some (no_cells (is_cell_of (a ++ cubes)) (λ c. ap (λ (s : List (List Factor)). is_cell_of s c) nothing) (closure_of q));
+}
+  where
+    nothing : a ++ cubes ≡ []
+    nothing = ap (λ (s : List (List Factor)). s ++ cubes) e ∙ f
+
+    no_cells : (t : List Factor → Bool) → ((c : List Factor) → t c ≡ false) → (cs : List (List Factor)) → filter t cs ≡ []
+    no_cells t h [] = refl
+    no_cells t h (c ∷ cs) = ap (λ b. cond b (c ∷ filter t cs) (filter t cs)) (h c) ∙ no_cells t h cs

@@ -1,8 +1,8 @@
 -- The owners of cells: one more, those of all faces of a cell, and those of all members
-use Rattle.std.proofs.Common.{◌≡◌, ◌≢◌, ℕ, zero, suc, ◌+◌, ◌<◌, ◌≤◌, ◌⊎◌, inl, inr, refl, sym, ap, ◌∙◌, arith, ⊎_elim, List, [], ◌∷◌, ◌++◌, length, get_or, set, map, subst}
+use Rattle.std.proofs.Common.{◌≡◌, ◌≢◌, ℕ, zero, suc, ◌+◌, ◌<◌, ◌⊎◌, inl, inr, refl, sym, ap, ◌∙◌, arith, ⊎_elim, List, [], ◌∷◌, ◌++◌, length, get_or, set, map, subst}
 use Rattle.std.specs.List.{Contains}
 use Rattle.std.proofs.lemmas.Bool.{cases_eq, cases_lt}
-use Rattle.std.proofs.lemmas.List.{map-set, length-map, length-set, get_or-set_same, get_or-set_other}
+use Rattle.std.proofs.lemmas.List.{map-set, length-map, length-set, length-append, get_or-set_same, get_or-set_other}
 use Rattle.std.proofs.lemmas.List as lists
 use Rattle.std.proofs.lemmas.Option.{slice_get_within, get_or_from_slice_get}
 use Rattle.std.specs.Prelude.{slice_get, Some}
@@ -10,10 +10,10 @@ use Rattle.elem_cubes.specs.Cells.{Factor}
 use Rattle.elem_cubes.specs.Faces.{IsFace, closure_of}
 use Rattle.elem_cubes.specs.Laws.{cell_at}
 use Rattle.elem_cubes.proofs.Listing.{closures_are_faces}
-use Rattle.elem_cubes.proofs.Members.{In, In-from, from-In, left-In, right-In}
+use Rattle.elem_cubes.proofs.Members.{In, In-from, from-In, In-append, left-In, right-In}
 use Rattle.cell_complex.specs.Sorted.{IsSortedCells}
 use Rattle.cell_complex.proofs.Sorting.{apart}
-use Rattle.excision.specs.Owners.{Names, AreOwners}
+use Rattle.excision.specs.Owners.{Names}
 
 -- ---- one more owner
 
@@ -46,8 +46,38 @@ module _ {A : Type 0} (f : A → List ℕ) (xs now : List A) (old : List (List �
       (λ d. subst (λ (l : List ℕ). Contains l j) (sym (other n d)) w)
       (cases_eq n i)
 
+  pub push_only : (n j : ℕ) → Names (map f now) n j → Names old n j ⊎ ((n ≡ d) × (j ≡ c))
+  push_only n j w = ⊎_elim
+      (λ e. ⊎_elim
+      (λ k. inl (subst (λ (m : ℕ). Contains (get_or old m []) j) (sym e) (from-In (get_or old i []) j k)))
+      (λ k. ⊎_elim (λ (q : c ≡ j). inr (e ∙ same, sym q)) (λ k. absurd k) k)
+      (In-append (get_or old i []) (c ∷ []) j (In-from (get_or old i [] ++ c ∷ []) j (subst (λ (l : List ℕ). Contains l j) here (subst (λ (m : ℕ). Contains (get_or (map f now) m []) j) e w)))))
+      (λ x. inl (subst (λ (l : List ℕ). Contains l j) (other n x) w))
+      (cases_eq n i)
+
   pub push_added : Names (map f now) d c
   push_added = subst (λ (m : ℕ). Contains (get_or (map f now) m []) c) same (subst (λ (l : List ℕ). Contains l c) (sym here) (last (get_or old i []) c))
+
+-- ---- lists without owners
+
+pub record EmptyTo {A : Type 0} (f : A → List ℕ) (xs : List A) (i : ℕ) : Type 0 where
+  pub count : length xs ≡ i
+  pub empty : (n : ℕ) → get_or (map f xs) n [] ≡ []
+
+pub empty_more : {A : Type 0} (f : A → List ℕ) (xs now : List A) (y : A) (i : ℕ) → now ≡ xs ++ y ∷ [] → f y ≡ [] → EmptyTo f xs i → EmptyTo f now (i + 1)
+empty_more {A} f xs now y i e none s = record {
+  count = ap length e ∙ length-append xs (y ∷ []) ∙ ap (λ (k : ℕ). k + 1) s.count;
+  empty = λ n. ap (λ (ys : List A). get_or (map f ys) n []) e ∙ more xs s.empty n;
+}
+  where
+    more : (xs : List A) → ((n : ℕ) → get_or (map f xs) n [] ≡ []) → (n : ℕ) → get_or (map f (xs ++ y ∷ [])) n [] ≡ []
+    more [] h zero = none
+    more [] h (suc n) = refl
+    more (x ∷ xs) h zero = h 0
+    more (x ∷ xs) h (suc n) = more xs (λ k. h (suc k)) n
+
+pub empty_end : {A : Type 0} (f : A → List ℕ) (xs : List A) (seen : List (List ℕ)) (i : ℕ) → seen ≡ map f xs → EmptyTo f xs i → (n j : ℕ) → ¬ Names seen n j
+empty_end f xs seen i e s n j w = In-from [] j (subst (λ (l : List ℕ). Contains l j) (ap (λ (l : List (List ℕ)). get_or l n []) e ∙ s.empty n) w)
 
 -- ---- the owner of all faces of a cell
 

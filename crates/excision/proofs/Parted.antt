@@ -1,14 +1,14 @@
 -- The reduction of a closed part of what a log leaves, generator by generator
-use Rattle.std.proofs.Common.{◌≡◌, ◌≢◌, ℕ, ◌+◌, ◌%◌, ◌<◌, inl, inr, refl, sym, ap, ◌∙◌, arith, ⊎_elim, List, [], ◌∷◌, ◌++◌, length, get_or, Bool, true, false, subst, append_assoc, eqb, eq-eqb, eqb-true, zero, suc, ◌≤◌, ◌*◌, cond}
-use Rattle.std.specs.List.{Contains, list_any}
+use Rattle.std.proofs.Common.{◌≡◌, ℕ, ◌+◌, ◌%◌, ◌<◌, inl, inr, refl, sym, ap, ◌∙◌, arith, ⊎_elim, List, [], ◌∷◌, ◌++◌, length, get_or, Bool, true, subst, append_assoc, eqb, eq-eqb, eqb-true, zero, suc, ◌≤◌, ◌*◌, cond}
+use Rattle.std.specs.List.{Contains}
 use native.Mathlib.Nat.{zero-mod, mod-eq_of_lt}
 use Rattle.std.proofs.lemmas.Bool.{cases_lt, cases_eq, cases_Bool}
 use Rattle.std.proofs.lemmas.List.Folds.{list_any_at, Any-from_list_any}
 use Rattle.field_mod.specs.Modular.{Same, NonZero, minus}
-use Rattle.field_mod.proofs.Modular.{same_refl, same_sym, same_trans}
+use Rattle.field_mod.proofs.Modular.{same_sym, same_trans}
 use Rattle.chains.specs.Terms.{coefficient}
 use Rattle.chains.specs.ChainComplex.{ChainComplex, incidence}
-use Rattle.algebraic_reduction.specs.Reduction.{Step, IsUnpaired, left, left_all}
+use Rattle.algebraic_reduction.specs.Reduction.{Step, IsUnpaired, left}
 use Rattle.algebraic_reduction.specs.Laws.{left_of, IsReduction}
 use Rattle.algebraic_reduction.specs.LogWords.{IsOneMore}
 use Rattle.algebraic_reduction.specs.Restrictions.{IsClosedPart, AreWithin}

@@ -37,7 +37,7 @@ use Rattle.cell_complex.proofs.Deciding.{has_is, has_from, from_has, cells_of_se
 use Rattle.cell_complex.proofs.Facets.{facets_coefficient}
 use Rattle.cell_complex.proofs.Numbering.{found, number_at, numbered_cells_are_complex}
 use Rattle.cell_complex.proofs.ByCell.{bases_are_by_number_or_cell}
-use Rattle.cell_complex.specs.AcyclicLists.{complex_of_cells, augmentation_over, IsAcyclicList}
+use Rattle.cell_complex.specs.AcyclicLists.{complex_of_cells, IsAcyclicList}
 use Rattle.excision.specs.Laws.{IsOneVertex, ReductionsShowAcyclicity}
 use Rattle.cell_complex.proofs.Alike.{over-total, lists_and_sets}
 use Rattle.cell_complex.proofs.Drawing.{lowest, lowest_face}

@@ -1,8 +1,8 @@
 -- The search for the members that touch a set
-use Rattle.std.proofs.Common.{◌≡◌, ◌≢◌, ℕ, zero, suc, ◌+◌, ◌^◌, ◌<◌, ◌≤◌, inl, inr, refl, sym, ap, ◌∙◌, arith, ⊎_elim, List, [], ◌∷◌, ◌++◌, length, take, get_or, Bool, true, false, cond, ◌&&◌, subst}
-use Rattle.std.specs.List.{filter, list_all, Contains}
+use Rattle.std.proofs.Common.{◌≡◌, ℕ, suc, ◌+◌, ◌^◌, ◌<◌, ◌≤◌, inl, inr, refl, sym, ap, ◌∙◌, arith, ⊎_elim, List, [], ◌∷◌, ◌++◌, length, take, get_or, Bool, true, false, cond, ◌&&◌, subst}
+use Rattle.std.specs.List.{filter, list_all}
 use Rattle.std.specs.Cmp as cmp
-use Rattle.std.proofs.lemmas.Bool.{true≢false, and_parts, cases_Bool}
+use Rattle.std.proofs.lemmas.Bool.{and_parts, cases_Bool}
 use Rattle.std.proofs.lemmas.List.{get_or_default}
 use Rattle.std.proofs.lemmas.List.Elements.{filter_more}
 use Rattle.std.proofs.lemmas.List.Kept.{IsStrictlySortedBy-filter}
@@ -14,7 +14,7 @@ use Rattle.elem_cubes.proofs.Listing.{closures_are_faces}
 use Rattle.elem_cubes.proofs.Members.{In, In-from, from-In}
 use Rattle.cube_sets.specs.Sorted.{has}
 use Rattle.cube_sets.specs.Sets.{Members, IsCubeSet, is_member, holds}
-use Rattle.cube_sets.specs.Closures.{is_cell_of, cells_of, closure}
+use Rattle.cube_sets.specs.Closures.{is_cell_of, closure}
 use Rattle.cube_sets.specs.Neighbours.{cells_meet}
 use Rattle.cube_sets.proofs.Covering.{cells_are_faces}
 use Rattle.cube_sets.proofs.SameSets.{same_sets, same_members}

@@ -1,6 +1,6 @@
 -- Logs of numbered cells: which cells their steps leave.
 use Rattle.std.specs.Prelude.{◌≡◌, ◌<◌, ℕ, List, [], ◌∷◌, length, Bool, true, false, not, ◌&&◌, ◌==◌}
-use Rattle.std.specs.List.{Contains, list_any}
+use Rattle.std.specs.List.{list_any}
 use Rattle.elem_cubes.specs.Cells.{Factor}
 use Rattle.elem_cubes.specs.Faces.{IsFace}
 use Rattle.elem_cubes.specs.Order.{cell_cmp}

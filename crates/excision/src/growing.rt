@@ -1,13 +1,11 @@
 //! Growth of the subset of a pair.
 ghost use Rattle.std.specs.Prelude.{◌≡◌, ◌≢◌, ℕ, ◌<◌, List, [], length, true, false, IfOk, OnOk, IfSome, IfNone};
-ghost use Rattle.std.specs.Ordering.{nat_cmp};
-ghost use Rattle.std.specs.BTreeSet.{contains};
 ghost use Rattle.std.specs.List.{Contains};
 ghost use Rattle.elem_cubes.specs.Cells.{Factor};
 ghost use Rattle.elem_cubes.specs.Laws.{cell_at};
 ghost use Rattle.cell_complex.specs.Numbering.{IsComplexOf, IsRelativeComplex};
 ghost use Rattle.cell_complex.specs.Growth.{IsFinishedGrowth};
-ghost use Rattle.excision.specs.Left.{is_gone, IsMovableInto, IsClosedIn};
+ghost use Rattle.excision.specs.Left.{is_gone, is_one_of, IsMovableInto, IsClosedIn};
 ghost use Rattle.excision.specs.Owners.{Names};
 ghost use Rattle.excision.specs.Taking.{TakeFaces};
 
@@ -50,6 +48,9 @@ pub fn grow<const P: u16>(
     let _ = (cells.len(), a.len());
     let mut log = log;
     let mut cubes = CellList::new(alloc);
+    if a.is_empty() {
+        return Ok(Grown { log, cubes });
+    }
     let owners = Owners::of(alloc, cells, x)?;
     let mut waiting = Waiting::below(alloc, x.len())?;
     'moves: while let Some(cube) = next_movable(alloc, field, &log, cells, x, &mut waiting)? {
@@ -75,10 +76,10 @@ fn next_movable<const P: u16>(
 ) -> Result<Option<Cell>, AllocError>
     requires complex { IsComplexOf P cells.now log.now.complex }
     requires closed { (q : List Factor) → Contains x.now.cells q → IsClosedIn q (is_gone cells.now log.now.steps) }
-    requires idle { (j : ℕ) → j < length x.now.cells → contains nat_cmp waiting.old j ≡ false → ¬ IsMovableInto P (is_gone cells.now log.now.steps) (cell_at x.now.cells j) }
+    requires idle { (j : ℕ) → j < length x.now.cells → is_one_of waiting.old j ≡ false → ¬ IsMovableInto P (is_gone cells.now log.now.steps) (cell_at x.now.cells j) }
     ensures some { IfOk result (λ o. IfSome o (IsMovableInto P (is_gone cells.now log.now.steps))) }
     ensures member { IfOk result (λ o. IfSome o (Contains x.now.cells)) }
-    ensures rest { IfOk result (λ o. IfSome o (λ q. (j : ℕ) → j < length x.now.cells → contains nat_cmp waiting.new j ≡ false → cell_at x.now.cells j ≢ q → ¬ IsMovableInto P (is_gone cells.now log.now.steps) (cell_at x.now.cells j))) }
+    ensures rest { IfOk result (λ o. IfSome o (λ q. (j : ℕ) → j < length x.now.cells → is_one_of waiting.new j ≡ false → cell_at x.now.cells j ≢ q → ¬ IsMovableInto P (is_gone cells.now log.now.steps) (cell_at x.now.cells j))) }
     ensures none { IfOk result (λ o. IfNone o ((j : ℕ) → j < length x.now.cells → ¬ IsMovableInto P (is_gone cells.now log.now.steps) (cell_at x.now.cells j))) }
 {
     'looking: while let Some(member) = waiting.pop() {
@@ -96,8 +97,8 @@ fn next_movable<const P: u16>(
 // The owners of these cells wait.
 fn wake(owners: &Owners, numbers: &[u32], waiting: &mut Waiting) -> Result<(), AllocError>
     requires { (n : ℕ) → Contains numbers.now n → n < length owners.now }
-    ensures kept { OnOk result ((j : ℕ) → contains nat_cmp waiting.old j ≡ true → contains nat_cmp waiting.new j ≡ true) }
-    ensures woken { OnOk result ((n j : ℕ) → Contains numbers.now n → Names owners.now n j → contains nat_cmp waiting.new j ≡ true) }
+    ensures kept { OnOk result ((j : ℕ) → is_one_of waiting.old j ≡ true → is_one_of waiting.new j ≡ true) }
+    ensures woken { OnOk result ((n j : ℕ) → Contains numbers.now n → Names owners.now n j → is_one_of waiting.new j ≡ true) }
 {
     for number in numbers {
         wake_all(owners.of_number(*number), waiting)?;
@@ -107,8 +108,8 @@ fn wake(owners: &Owners, numbers: &[u32], waiting: &mut Waiting) -> Result<(), A
 
 // These members wait.
 fn wake_all(members: &[u32], waiting: &mut Waiting) -> Result<(), AllocError>
-    ensures kept { OnOk result ((j : ℕ) → contains nat_cmp waiting.old j ≡ true → contains nat_cmp waiting.new j ≡ true) }
-    ensures woken { OnOk result ((j : ℕ) → Contains members.now j → contains nat_cmp waiting.new j ≡ true) }
+    ensures kept { OnOk result ((j : ℕ) → is_one_of waiting.old j ≡ true → is_one_of waiting.new j ≡ true) }
+    ensures woken { OnOk result ((j : ℕ) → Contains members.now j → is_one_of waiting.new j ≡ true) }
 {
     for member in members {
         waiting.push(*member)?;

@@ -19,5 +19,6 @@ pub use laws::{
     reductions_show_acyclicity, touching_cells_share_vertices,
 };
 pub use left::left_number;
+pub use owners::Owners;
 pub use part::reduce_part;
 pub use waiting::Waiting;

@@ -1,5 +1,5 @@
-//! The members of a set, by the numbers of their cells.
-ghost use Rattle.std.specs.Prelude.{◌≡◌, ℕ, ◌<◌, [], List, length, slice_index_or, IfOk, OnOk};
+//! Lists of numbers, by numbers: the members of a set by the numbers of their cells.
+ghost use Rattle.std.specs.Prelude.{◌≡◌, ℕ, ◌<◌, ◌⊎◌, [], List, length, slice_index_or, IfOk, OnOk};
 ghost use Rattle.elem_cubes.specs.Faces.{IsFace};
 ghost use Rattle.elem_cubes.specs.Laws.{cell_at};
 ghost use Rattle.excision.specs.Owners.{Names, AreOwners};
@@ -11,9 +11,9 @@ use smallvec::SmallVec;
 use std::alloc::{AllocError, Global};
 use std::marker::Model;
 
-/// For each number of a cell a list of places of members, seen as these lists.
+/// For each number of a cell a list of numbers, such as the places of the members that have it; seen as these lists.
 #[derive(Drop)]
-pub(crate) struct Owners {
+pub struct Owners {
     lists: Vec<SmallVec<u32, 4>>,
 }
 
@@ -38,9 +38,10 @@ impl Owners {
         Ok(owners)
     }
 
-    // Lists without owners.
-    fn none(alloc: Global, count: u32) -> Result<Owners, AllocError>
-        ensures { IfOk result (λ o. length o ≡ count) }
+    /// So many lists without owners.
+    pub fn none(alloc: Global, count: u32) -> Result<Owners, AllocError>
+        ensures count { IfOk result (λ o. length o ≡ count) }
+        ensures empty { IfOk result (λ o. (n j : ℕ) → ¬ Names o n j) }
     {
         let mut lists = Vec::with_capacity(alloc, count as usize)?;
         for _ in 0..count {
@@ -65,19 +66,20 @@ impl Owners {
         Ok(())
     }
 
-    // One more owner of a cell.
-    fn push(&mut self, number: u32, member: u32) -> Result<(), AllocError>
+    /// One more owner of a cell.
+    pub fn push(&mut self, number: u32, member: u32) -> Result<(), AllocError>
         requires { number < length self.old }
         ensures count { OnOk result (length self.new ≡ length self.old) }
         ensures kept { OnOk result ((n j : ℕ) → Names self.old n j → Names self.new n j) }
         ensures added { OnOk result (Names self.new number member) }
+        ensures only { OnOk result ((n j : ℕ) → Names self.new n j → Names self.old n j ⊎ ((n ≡ number) × (j ≡ member))) }
     {
         self.lists[number as usize].push(member)?;
         Ok(())
     }
 
     /// The owners of a cell.
-    pub(crate) fn of_number(&self, number: u32) -> &[u32]
+    pub fn of_number(&self, number: u32) -> &[u32]
         requires { number < length self.now }
         ensures { result.now ≡ slice_index_or self.now number [] }
     {

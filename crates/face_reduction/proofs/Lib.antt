@@ -2,3 +2,4 @@ pub mod Pairing
 pub mod Finding
 pub mod Taking
 pub mod Turning
+pub mod Cofacing

@@ -1,10 +1,9 @@
 -- Logs whose steps are free pairs after a growth
-use Rattle.std.proofs.Common.{◌≡◌, ◌≢◌, ℕ, ◌<◌, refl, sym, ap, ◌∙◌, arith, ⊎_elim, List, [], ◌∷◌, ◌++◌, length, Bool, true, false, ◌&&◌, ◌||◌, subst, eqb, eq-eqb, ne_eqb, append_assoc}
+use Rattle.std.proofs.Common.{◌≡◌, ◌≢◌, ℕ, ◌<◌, refl, sym, ap, ◌∙◌, arith, ⊎_elim, List, [], ◌∷◌, ◌++◌, length, Bool, true, false, ◌&&◌, ◌||◌, subst, append_assoc}
 use Rattle.std.specs.Prelude.{not}
 use Rattle.std.specs.Cmp as cmp
 use Rattle.std.proofs.lemmas.Bool.{cases_lt, both_ways, and_parts, and_from, or_from, not-true, false_from_ne_true}
 use Rattle.std.proofs.lemmas.List.{get_or_past}
-use Rattle.std.proofs.lemmas.List.Elements.{Contains-get_or}
 use Rattle.field_mod.specs.Modular.{Same}
 use Rattle.field_mod.proofs.Modular.{same_trans, same_sym, same-scale, same-mul}
 use Rattle.elem_cubes.specs.Cells.{Factor, same_cell}
@@ -20,15 +19,14 @@ use Rattle.cube_sets.specs.Sorted.{has}
 use Rattle.algebraic_reduction.specs.Reduction.{Step, IsUnpaired}
 use Rattle.algebraic_reduction.specs.Laws.{AreStepsOf}
 use Rattle.cell_complex.specs.Sorted.{IsSortedCells}
-use Rattle.cell_complex.specs.Numbering.{IsListing, IsComplexOf, number_of}
+use Rattle.cell_complex.specs.Numbering.{IsListing, IsComplexOf}
 use Rattle.cell_complex.proofs.Deciding.{cell_true, has_is, has_from, from_has}
-use Rattle.cell_complex.proofs.Numbering.{number_at, number_within, at_number}
 use Rattle.cell_complex.proofs.Sorting.{apart}
 use Rattle.algebraic_reduction.specs.Restrictions.{LeaveRestrictions, IsFreeStep}
 use Rattle.algebraic_reduction.proofs.Restrictions.{unpaired_parts, unpaired_both, steps_parts, free_steps}
 use Rattle.excision.proofs.Moving.{faces}
 use Rattle.cell_complex.specs.FreePairs.{IsFreePair, AreFreeInTurn, without_pair, without_pairs}
-use Rattle.excision.specs.Left.{is_unpaired, is_left}
+use Rattle.excision.specs.Left.{is_left}
 use Rattle.face_reduction.specs.Logs.{cell_pairs, IsCollapse}
 use Rattle.excision.proofs.Leaving.{left_parts, left_from}
 use Rattle.face_reduction.specs.Laws.{CollapsesLeaveRestrictions, FreePairsAreUnits, CollapsesGoOn}

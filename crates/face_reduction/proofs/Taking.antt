@@ -1,9 +1,9 @@
 -- Free pairs taken one by one, in rounds, until none is left
-use Rattle.std.proofs.Common.{◌≡◌, ℕ, zero, suc, ◌+◌, ◌*◌, ◌<◌, ◌≤◌, ◌⊎◌, inl, inr, refl, sym, ap, ◌∙◌, arith, ⊎_elim, List, [], ◌∷◌, ◌++◌, length, Bool, true, false, cond, subst}
-use Rattle.std.proofs.Common.{Result, Ok, Err, IfOk, Option, Some, eqb, eq-eqb, take, drop, get_or, append_assoc}
-use Rattle.std.specs.Prelude.{not, slice_get, IfSome}
+use Rattle.std.proofs.Common.{◌≡◌, ℕ, zero, suc, ◌+◌, ◌<◌, ◌≤◌, ◌⊎◌, inl, inr, refl, sym, ap, ◌∙◌, arith, ⊎_elim, List, [], ◌∷◌, ◌++◌, length, true, false, cond, subst}
+use Rattle.std.proofs.Common.{Result, Ok, Err, IfOk, Option, Some, take, drop, get_or, append_assoc}
+use Rattle.std.specs.Prelude.{slice_get, IfSome}
 use Rattle.std.specs.List.{Contains}
-use Rattle.std.proofs.lemmas.Bool.{true≢false, cases_Bool, cases_lt, eqb-true, and_parts, false_from_ne_true}
+use Rattle.std.proofs.lemmas.Bool.{cases_Bool, and_parts, false_from_ne_true}
 use Rattle.std.proofs.lemmas.List.{length-append}
 use Rattle.field_mod.specs.Modular.{NonZero}
 use Rattle.field_mod.specs.Sums.{total}
@@ -22,11 +22,11 @@ use Rattle.cell_complex.specs.Numbering.{IsComplexOf, number_of}
 use Rattle.cell_complex.proofs.Deciding.{has_is, from_has}
 use Rattle.excision.proofs.Leaving.{place_of_cell}
 use Rattle.algebraic_reduction.proofs.Restrictions.{unpaired_parts}
-use Rattle.cell_complex.specs.FreePairs.{IsFreePair, HasNoFreePair, AreFreeInTurn, without_pair}
+use Rattle.cell_complex.specs.FreePairs.{IsFreePair, AreFreeInTurn, without_pair}
 use Rattle.excision.specs.Left.{is_unpaired, is_left}
 use Rattle.face_reduction.specs.Logs.{cell_pairs, IsGrowthThenCollapse, IsCollapse, IsFreeNumber, TakesPairs}
 use Rattle.excision.proofs.Leaving.{left_parts, unpaired_test, test_unpaired}
-use Rattle.face_reduction.proofs.Pairing.{restrict, units, go_on, face_inside, none_behind, left_step, free_alike, free_behind, collapse_none, collapse_both}
+use Rattle.face_reduction.proofs.Pairing.{restrict, units, go_on, face_inside, none_behind, left_step, free_alike, free_behind}
 
 -- ---- one pair
 

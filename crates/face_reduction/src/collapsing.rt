@@ -5,7 +5,8 @@ ghost use Rattle.cell_complex.specs.Numbering.{IsComplexOf};
 ghost use Rattle.excision.specs.Left.{is_left};
 ghost use Rattle.face_reduction.specs.Logs.{IsGrowthThenCollapse, IsCollapse, TakesPairs};
 
-use crate::free_pairs::{next_free, wake_facets};
+use crate::cofaces::{cofaces_of, wake_faces};
+use crate::free_pairs::next_free;
 use algebraic_reduction::Log;
 use cell_complex::Numbered;
 use elem_cubes::Cell;
@@ -29,12 +30,13 @@ pub fn collapse<const P: u16>(
     ensures none_free { IfOk result (λ l. HasNoFreePair (is_left cells.now l.steps)) }
 {
     let mut log = log;
+    let cofaces = cofaces_of(alloc, &log, cells)?;
     let mut waiting = Waiting::below(alloc, cells.len())?;
-    'pairs: while let Some(pair) = next_free(&log, cells, &mut waiting) {
+    'pairs: while let Some(pair) = next_free(&log, cells, &cofaces, &mut waiting) {
         let _ = log.step_count();
         log = log.reduce_pair(field, pair.0, pair.1)?;
-        wake_facets(cells, &cells.cell(pair.0), &mut waiting)?;
-        wake_facets(cells, &cells.cell(pair.1), &mut waiting)?;
+        wake_faces(log.complex().boundary(pair.0), &mut waiting)?;
+        wake_faces(log.complex().boundary(pair.1), &mut waiting)?;
     }
     Ok(log)
 }

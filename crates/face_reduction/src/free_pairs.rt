@@ -1,44 +1,49 @@
 //! Free pairs among the cells that a log leaves.
-ghost use Rattle.std.specs.Prelude.{◌≡◌, ◌≢◌, ℕ, ◌<◌, List, IfSome, IfNone, OnOk, length, true, false};
-ghost use Rattle.std.specs.Ordering.{nat_cmp};
-ghost use Rattle.std.specs.BTreeSet.{contains};
+ghost use Rattle.std.specs.Prelude.{◌≡◌, ◌≢◌, ℕ, ◌<◌, List, IfSome, IfNone, length, true, false};
 ghost use Rattle.elem_cubes.specs.Cells.{Factor};
-ghost use Rattle.elem_cubes.specs.Faces.{IsFacet};
 ghost use Rattle.elem_cubes.specs.Laws.{cell_at};
 ghost use Rattle.cell_complex.specs.FreePairs.{IsFreePair};
 ghost use Rattle.cell_complex.specs.Sorted.{IsSortedCells};
 ghost use Rattle.cell_complex.specs.Numbering.{IsComplexOf};
-ghost use Rattle.excision.specs.Left.{is_left};
+ghost use Rattle.excision.specs.Left.{is_left, is_one_of};
+ghost use Rattle.face_reduction.specs.Cofaces.{AreCofaces};
 ghost use Rattle.face_reduction.specs.Logs.{IsFreeNumber, IsFreeFace};
 
 use algebraic_reduction::Log;
 use cell_complex::Numbered;
-use elem_cubes::Cell;
-use excision::{Waiting, left_number};
-use std::alloc::AllocError;
+use excision::{Owners, Waiting};
 
 // The number of the one cell that is left and has the cell of this number as a facet, where that is left.
-fn free_coface<const P: u16>(log: &Log<P>, cells: &Numbered, face: u32) -> Option<u32>
+fn free_coface<const P: u16>(
+    log: &Log<P>,
+    cells: &Numbered,
+    cofaces: &Owners,
+    face: u32,
+) -> Option<u32>
     requires complex { IsComplexOf P cells.now log.now.complex }
+    requires count { length cofaces.now ≡ length cells.now }
+    requires cofaces { AreCofaces cells.now cofaces.now }
     requires face { face < length cells.now }
     ensures some { IfSome result (IsFreeNumber cells.now log.now.steps face) }
     ensures none { IfNone result ((b : List Factor) → ¬ IsFreePair (is_left cells.now log.now.steps) (cell_at cells.now face) b) }
 {
-    let cell = cells.cell(face);
-    if left_number(log, cells, &cell).is_none() {
+    // Its clauses say that the cells are in order.
+    let _ = cells.len();
+    if !log.alive(face) {
         return None;
     }
+    let numbers = cofaces.of_number(face);
     let mut found = None;
-    for (coface, _) in cell.cofaces() {
-        if let Some(number) = left_number(log, cells, &coface) {
-            match found {
-                None => found = Some(number),
-                Some(other) => {
-                    if other != number {
-                        return None;
-                    }
-                }
-            }
+    for coface in numbers {
+        if !log.alive(*coface) {
+            continue;
+        }
+        let Some(other) = found else {
+            found = Some(*coface);
+            continue;
+        };
+        if other != *coface {
+            return None;
         }
     }
     found
@@ -49,13 +54,16 @@ fn free_coface<const P: u16>(log: &Log<P>, cells: &Numbered, face: u32) -> Optio
 pub(crate) fn next_free<const P: u16>(
     log: &Log<P>,
     cells: &Numbered,
+    cofaces: &Owners,
     waiting: &mut Waiting,
 ) -> Option<(u32, u32)>
     requires complex { IsComplexOf P cells.now log.now.complex }
-    requires idle { (k : ℕ) → k < length cells.now → contains nat_cmp waiting.old k ≡ false → ¬ IsFreeFace (is_left cells.now log.now.steps) (cell_at cells.now k) }
+    requires count { length cofaces.now ≡ length cells.now }
+    requires cofaces { AreCofaces cells.now cofaces.now }
+    requires idle { (k : ℕ) → k < length cells.now → is_one_of waiting.old k ≡ false → ¬ IsFreeFace (is_left cells.now log.now.steps) (cell_at cells.now k) }
     ensures inside { IfSome result (λ t. t.0 < length cells.now) }
     ensures some { IfSome result (λ t. IsFreeNumber cells.now log.now.steps t.0 t.1) }
-    ensures rest { IfSome result (λ t. (k : ℕ) → k < length cells.now → contains nat_cmp waiting.new k ≡ false → k ≢ t.0 → ¬ IsFreeFace (is_left cells.now log.now.steps) (cell_at cells.now k)) }
+    ensures rest { IfSome result (λ t. (k : ℕ) → k < length cells.now → is_one_of waiting.new k ≡ false → k ≢ t.0 → ¬ IsFreeFace (is_left cells.now log.now.steps) (cell_at cells.now k)) }
     ensures none { IfNone result ((k : ℕ) → k < length cells.now → ¬ IsFreeFace (is_left cells.now log.now.steps) (cell_at cells.now k)) }
     ensures sorted { IsSortedCells cells.now }
 {
@@ -64,27 +72,9 @@ pub(crate) fn next_free<const P: u16>(
         if face >= cells.len() {
             continue;
         }
-        if let Some(coface) = free_coface(log, cells, face) {
+        if let Some(coface) = free_coface(log, cells, cofaces, face) {
             return Some((face, coface));
         }
     }
     None
-}
-
-// The facets of a cell wait.
-pub(crate) fn wake_facets(
-    cells: &Numbered,
-    cell: &Cell,
-    waiting: &mut Waiting,
-) -> Result<(), AllocError>
-    ensures kept { OnOk result ((k : ℕ) → contains nat_cmp waiting.old k ≡ true → contains nat_cmp waiting.new k ≡ true) }
-    ensures woken { OnOk result ((k : ℕ) → k < length cells.now → IsFacet cell.now (cell_at cells.now k) → contains nat_cmp waiting.new k ≡ true) }
-{
-    for facet in cell.faces() {
-        let Some(number) = cells.number(&facet.0) else {
-            continue;
-        };
-        waiting.push(number)?;
-    }
-    Ok(())
 }

@@ -1,6 +1,7 @@
 //! Collapses by free faces.
 #![tactic(auto)]
 
+mod cofaces;
 mod collapsing;
 mod free_pairs;
 mod laws;

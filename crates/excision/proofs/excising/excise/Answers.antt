@@ -1,4 +1,4 @@
-use Rattle.std.proofs.Common.{◌∙◌, ap, arith, length}
+use Rattle.std.proofs.Common.{◌∙◌, ap, arith}
 use Rattle.std.specs.List.{list_all}
 use Rattle.cube_sets.specs.Sets.{is_member}
 use Rattle.excision.proofs.Sharing.{near_few, near_alike, near_is, near_relative}

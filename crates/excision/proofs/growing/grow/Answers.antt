@@ -1,7 +1,6 @@
-use Rattle.std.proofs.Common.{◌≡◌, ◌≢◌, ◌∙◌, ◌++◌, ℕ, ◌<◌, List, [], ◌∷◌, sym, subst, arith, length, false}
+use Rattle.std.proofs.Common.{◌≡◌, ◌≢◌, ◌∙◌, ◌++◌, ℕ, ◌<◌, List, [], sym, subst, arith, length, false}
 use Rattle.std.specs.List.{Contains}
-use Rattle.std.specs.Ordering.{nat_cmp}
-use Rattle.std.specs.BTreeSet.{contains}
+use Rattle.excision.specs.Left.{is_one_of}
 use Rattle.std.proofs.lemmas.List.Elements.{Contains-get_or}
 use Rattle.field_mod.proofs.Table.{two_le}
 use Rattle.elem_cubes.specs.Cells.{Factor}
@@ -15,7 +14,7 @@ use Rattle.excision.specs.Left.{is_gone, IsMovableInto}
 use Rattle.excision.specs.Taking.{TakeFaces}
 use Rattle.excision.proofs.Counting.{fewer_missing}
 use Rattle.excision.proofs.Leaving.{gone_closed, movable_into, movable_from}
-use Rattle.excision.proofs.Moved.{some_of, none_of, all_members, numbers_inside, numbers_closed, move_takes, still_idle, are_at}
+use Rattle.excision.proofs.Moved.{finished_alone, some_of, none_of, all_members, numbers_inside, numbers_closed, move_takes, still_idle, are_at}
 use Rattle.excision.proofs.growing.grow.Goals as goal
 
 pub next_movable-requires : goal.next_movable-requires
@@ -86,13 +85,13 @@ moves-preserved g c =
     let are = are_at c.args.cells.now c.moves.log.steps q c.in_ok-faces.faces.items ns c.deref-in-Some.ensures.value c.in_ok-faces.ensures in
     let ms = c.deref.result.now in
     let these = are_at c.args.cells.now c.moves.log.steps q c.in_ok-faces.faces.items ms c.deref.ensures.value c.in_ok-faces.ensures in
-    let others = some_of c.in_ok-cube.field-0 (λ r. (j : ℕ) → j < length x → contains nat_cmp c.next_movable.new.waiting j ≡ false → cell_at x j ≢ r → ¬ IsMovableInto g.row.P (is_gone c.args.cells.now c.moves.log.steps) (cell_at x j)) q c.in-Some.is c.in_ok-cube.ensures.rest in
+    let others = some_of c.in_ok-cube.field-0 (λ r. (j : ℕ) → j < length x → is_one_of c.next_movable.new.waiting j ≡ false → cell_at x j ≢ r → ¬ IsMovableInto g.row.P (is_gone c.args.cells.now c.moves.log.steps) (cell_at x j)) q c.in-Some.is c.in_ok-cube.ensures.rest in
     record {
       complex = c.in_ok-log.ensures.complex ∙ i.complex;
       growth = subst (λ (cs : List (List Factor)). IsGrowth g.row.P x a cs) (sym c.in_ok-push.ensures.ok) (go_on g.row.P x a c.moves.cubes q i.growth w m);
       taken = subst (λ (cs : List (List Factor)). TakeFaces c.args.cells.now cs c.in_ok-log.log.steps) (sym c.in_ok-push.ensures.ok)
           (move_takes g.row.P x a c.args.cells.now c.moves.cubes c.args.log.complex c.moves.log.steps q (two_le g.row.P c.args.field.listed) c.requires.complex w m i.taken steps ns are c.in_ok-log.log.complex c.in_ok-log.log.steps (c.in_ok-log.ensures.complex ∙ i.complex) c.in_ok-log.ensures.further c.step_count-in-Some.ensures.steps c.in_ok-log.ensures.nothing_left);
-      idle = subst (λ (cs : List (List Factor)). (j : ℕ) → j < length x → contains nat_cmp c.wake.new.waiting j ≡ false → ¬ IsMovable g.row.P (a ++ cs) (cell_at x j)) (sym c.in_ok-push.ensures.ok)
+      idle = subst (λ (cs : List (List Factor)). (j : ℕ) → j < length x → is_one_of c.wake.new.waiting j ≡ false → ¬ IsMovable g.row.P (a ++ cs) (cell_at x j)) (sym c.in_ok-push.ensures.ok)
           (still_idle g.row.P x a c.args.cells.now c.moves.cubes c.args.log.complex c.moves.log.steps q (two_le g.row.P c.args.field.listed) c.requires.complex w m i.taken steps ms these c.in_ok-owners.owners c.next_movable.new.waiting c.wake.new.waiting c.len.ensures.sorted c.in_ok-owners.ensures.owners others c.in_ok-wake.ensures.kept c.in_ok-wake.ensures.woken);
     }
 
@@ -106,3 +105,6 @@ returns-clause-growth g c =
       growth = i.growth;
       finished = λ q w m. all_members (IsMovableInto g.row.P (is_gone c.args.cells.now c.moves.log.steps)) x none q w (movable_into x a c.args.cells.now c.moves.cubes c.moves.log.steps c.len.ensures.sorted c.requires.complex.listing i.taken g.row.P q w m);
     }
+
+pub returns-then-is_empty-clause-growth : goal.returns-then-is_empty-clause-growth
+returns-then-is_empty-clause-growth g c = finished_alone g.row.P c.args.x.now.cells c.args.a.now.cells c.new-cubes.result (c.is_empty.ensures.0 c.if-is_empty.true) c.new-cubes.ensures

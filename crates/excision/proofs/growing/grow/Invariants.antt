@@ -1,6 +1,5 @@
 use Rattle.std.proofs.Common.{◌≡◌, ◌++◌, ℕ, ◌<◌, length, false}
-use Rattle.std.specs.Ordering.{nat_cmp}
-use Rattle.std.specs.BTreeSet.{contains}
+use Rattle.excision.specs.Left.{is_one_of}
 use Rattle.elem_cubes.specs.Laws.{cell_at}
 use Rattle.cell_complex.specs.Growth.{IsMovable, IsGrowth}
 use Rattle.excision.specs.Taking.{TakeFaces}
@@ -12,7 +11,7 @@ invariant-moves g l = record {
   complex : l.log.complex ≡ l.fn.log.complex;
   growth : IsGrowth g.row.P l.x.cells l.a.cells l.cubes;
   taken : TakeFaces l.cells l.cubes l.log.steps;
-  idle : (j : ℕ) → j < length l.x.cells → contains nat_cmp l.waiting j ≡ false → ¬ IsMovable g.row.P (l.a.cells ++ l.cubes) (cell_at l.x.cells j);
+  idle : (j : ℕ) → j < length l.x.cells → is_one_of l.waiting j ≡ false → ¬ IsMovable g.row.P (l.a.cells ++ l.cubes) (cell_at l.x.cells j);
 }
 
 abbrev pub decreases-moves : goal.decreases-moves

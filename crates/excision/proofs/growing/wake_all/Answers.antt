@@ -1,8 +1,7 @@
 use Rattle.std.proofs.Common.{◌≡◌, arith, true}
-use Rattle.std.specs.Ordering.{nat_cmp}
-use Rattle.std.specs.BTreeSet.{contains}
+use Rattle.excision.specs.Left.{is_one_of}
 use Rattle.excision.proofs.Parted.{at_all}
 use Rattle.excision.proofs.growing.wake_all.Goals as goal
 
 pub returns-clause-woken : goal.returns-clause-woken
-returns-clause-woken c = at_all (λ j. contains nat_cmp c.loop-member.waiting j ≡ true) c.args.members.now c.loop-member.member-index (omega arith) c.loop-member.invariant.woken
+returns-clause-woken c = at_all (λ j. is_one_of c.loop-member.waiting j ≡ true) c.args.members.now c.loop-member.member-index (omega arith) c.loop-member.invariant.woken

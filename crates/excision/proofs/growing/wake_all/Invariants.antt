@@ -1,10 +1,9 @@
 use Rattle.std.proofs.Common.{◌≡◌, ℕ, ◌<◌, get_or, true}
-use Rattle.std.specs.Ordering.{nat_cmp}
-use Rattle.std.specs.BTreeSet.{contains}
+use Rattle.excision.specs.Left.{is_one_of}
 use Rattle.excision.proofs.growing.wake_all.Given as goal
 
 abbrev pub invariant-loop-member : goal.invariant-loop-member
 invariant-loop-member l = record {
-  kept : (j : ℕ) → contains nat_cmp l.initial.waiting j ≡ true → contains nat_cmp l.waiting j ≡ true;
-  woken : (k : ℕ) → k < l.member-index → contains nat_cmp l.waiting (get_or l.members k 0) ≡ true;
+  kept : (j : ℕ) → is_one_of l.initial.waiting j ≡ true → is_one_of l.waiting j ≡ true;
+  woken : (k : ℕ) → k < l.member-index → is_one_of l.waiting (get_or l.members k 0) ≡ true;
 }

@@ -1,4 +1,4 @@
-use Rattle.std.proofs.Common.{◌≡◌, ℕ, arith, refl, get_or}
+use Rattle.std.proofs.Common.{arith, refl, get_or}
 use Rattle.algebraic_reduction.specs.Laws.{left_of}
 use Rattle.excision.proofs.Parted.{place_in, inside_now, entry_nonzero, face_listed, face_alive, part_take, part_end}
 use Rattle.excision.proofs.part.reduce_part.Goals as goal

@@ -1,8 +1,8 @@
-use Rattle.std.proofs.Common.{◌∙◌, refl, sym, subst, List, arith}
+use Rattle.std.proofs.Common.{◌∙◌, ◌≢◌, ℕ, refl, sym, ap, subst, List, [], get_or, arith}
 use Rattle.field_mod.proofs.Table.{two_le}
-use Rattle.elem_cubes.specs.Cells.{Factor}
-use Rattle.elem_cubes.specs.Faces.{IsFacet}
-use Rattle.elem_cubes.specs.Laws.{cell_at}
+use Rattle.chains.specs.Terms.{coefficient}
+use Rattle.chains.specs.ChainComplex.{ChainComplex}
+use Rattle.face_reduction.proofs.Cofacing.{facet_named}
 use Rattle.face_reduction.proofs.Pairing.{collapse_none, collapse_both}
 use Rattle.face_reduction.proofs.Taking.{may_take, took, one_less, steps_kept, complex_kept}
 use Rattle.face_reduction.proofs.Turning.{idle_first, still_idle, none_at_all}
@@ -36,13 +36,20 @@ pairs-preserved g c =
     let i = c.pairs.invariant in
     let a = c.in-Some.pair.0 in
     let b = c.in-Some.pair.1 in
-    let first = c.in_ok-wake_facets.ensures in
-    let second = c.in_ok-wake_facets-2.ensures in
+    let first = c.in_ok-wake_faces.ensures in
+    let second = c.in_ok-wake_faces-2.ensures in
+    let two = two_le g.row.P c.args.field.listed in
+    let C = complex_kept g.row.P cells c.args.log.complex c.in_ok-log.log.complex (c.in_ok-log.ensures.complex ∙ i.complex) c.requires.complex in
+    let at_a = c.boundary.ensures.value ∙ ap (λ (M : ChainComplex). get_or M.boundaries a []) c.complex.ensures in
+    let at_b = c.boundary-in-Some.ensures.value ∙ ap (λ (M : ChainComplex). get_or M.boundaries b []) c.complex-in-Some.ensures in
     record {
       complex = c.in_ok-log.ensures.complex ∙ i.complex;
       collapse = collapse_both cells c.args.log.steps c.pairs.log.steps c.in_ok-log.log.steps c.len.ensures.sorted i.collapse (took cells c.pairs.log.steps c.in_ok-log.log.steps a b c.in-Some.ensures.some c.in_ok-log.ensures.one_more);
       idle = still_idle cells c.pairs.log.steps c.in_ok-log.log.steps a b c.len.ensures.sorted c.in-Some.ensures.inside c.in-Some.ensures.some c.in_ok-log.ensures.one_more
-          c.next_free.new.waiting c.wake_facets-in-Some.new.waiting c.in-Some.ensures.rest (λ k h. second.kept k (first.kept k h))
-          (λ k l x. second.kept k (first.woken k l (subst (λ (q : List Factor). IsFacet q (cell_at cells k)) (sym c.cell.ensures) x)))
-          (λ k l x. second.woken k l (subst (λ (q : List Factor). IsFacet q (cell_at cells k)) (sym c.cell-in-Some.ensures) x));
+          c.next_free.new.waiting c.wake_faces-in-Some.new.waiting c.in-Some.ensures.rest (λ k h. second.kept k (first.kept k h))
+          (λ k l x. second.kept k (first.woken k (subst (λ (ts : List (ℕ × ℕ)). coefficient ts k ≢ 0) (sym at_a) (facet_named g.row.P cells c.in_ok-log.log.complex two c.len.ensures.sorted C a k c.in-Some.ensures.inside x))))
+          (λ k l x. second.woken k (subst (λ (ts : List (ℕ × ℕ)). coefficient ts k ≢ 0) (sym at_b) (facet_named g.row.P cells c.in_ok-log.log.complex two c.len.ensures.sorted C b k (c.in-Some.ensures.some).inside x)));
     }
+
+pub cofaces_of-requires : goal.cofaces_of-requires
+cofaces_of-requires g c = (omega arith, (two_le g.row.P c.args.field.listed, c.requires.complex))

@@ -1,6 +1,5 @@
 use Rattle.std.proofs.Common.{◌≡◌, ℕ, ◌<◌, length, false}
-use Rattle.std.specs.Ordering.{nat_cmp}
-use Rattle.std.specs.BTreeSet.{contains}
+use Rattle.excision.specs.Left.{is_one_of}
 use Rattle.elem_cubes.specs.Laws.{cell_at}
 use Rattle.excision.specs.Left.{is_left}
 use Rattle.face_reduction.specs.Logs.{IsCollapse, IsFreeFace}
@@ -11,7 +10,7 @@ abbrev pub invariant-pairs : goal.invariant-pairs
 invariant-pairs g l = record {
   complex : l.log.complex ≡ l.fn.log.complex;
   collapse : IsCollapse l.cells l.fn.log.steps l.log.steps;
-  idle : (k : ℕ) → k < length l.cells → contains nat_cmp l.waiting k ≡ false → ¬ IsFreeFace (is_left l.cells l.log.steps) (cell_at l.cells k);
+  idle : (k : ℕ) → k < length l.cells → is_one_of l.waiting k ≡ false → ¬ IsFreeFace (is_left l.cells l.log.steps) (cell_at l.cells k);
 }
 
 abbrev pub decreases-pairs : goal.decreases-pairs
