@@ -13,6 +13,10 @@ use Rattle.set_tools.specs.Jobs as sets
 use Rattle.set_tools.proofs.Judging as of_sets
 use Rattle.pair_tool.specs.Jobs as pairs
 use Rattle.pair_tool.proofs.Judging as of_pairs
+use Rattle.command_line.specs.Operands.{holes_named}
+use Rattle.gen_tool.specs.declared.holes.HolesJob.{HolesJob}
+use Rattle.gen_tool.specs.Jobs as gens
+use Rattle.gen_tool.proofs.Judging as of_gens
 use Rattle.chain_tool.specs.Jobs as chains
 use Rattle.chain_tool.proofs.Judging as of_chains
 
@@ -41,6 +45,14 @@ abbrev pub chain_of : Request → ChainJob
 chain_of r =
     record { file = first r.operands; modulus = r.options.modulus; cycles = r.options.cycles }
 
+-- squares with so many holes, which the form asks for
+abbrev pub holes_of : Request → HolesJob
+holes_of r = record {
+  holes = unwrap_or (holes_named r.operands) 1;
+  set_alone = r.options.set_alone;
+  modulus = r.options.modulus;
+}
+
 -- ---- all tools
 
 -- a job, and that it is judged in one way
@@ -67,6 +79,7 @@ judged_by tools.Cubinter r = judged_combination (two_files Intersection r)
 judged_by tools.Cubnbhd r = judged (sets.neighbours_job (x_of r)) (of_sets.neighbours_once (x_of r))
 judged_by tools.Cubcells r = judged (sets.cells_job (x_of r)) (of_sets.cells_once (x_of r))
 judged_by tools.Homchain r = judged_chain (chain_of r)
+judged_by tools.Gen r = judged (gens.holes_job (holes_of r)) (of_gens.holes_once (holes_of r))
 
 abbrev pub job_by : ToolName → Request → Job
 job_by tool r = (judged_by tool r).job

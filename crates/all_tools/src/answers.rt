@@ -1,14 +1,16 @@
 //! From a command to its answer, for whichever tool it names.
 ghost use Rattle.loading.specs.Jobs.{Answers};
-ghost use Rattle.all_tools.specs.Jobs.{job_by, pair_of, two_files, chain_of};
+ghost use Rattle.all_tools.specs.Jobs.{job_by, pair_of, two_files, chain_of, holes_of};
 ghost use Rattle.pair_tool.specs.Jobs.{pair_job};
 ghost use Rattle.set_tools.specs.Jobs.{combination_job};
 ghost use Rattle.chain_tool.specs.Jobs.{chain_job};
+ghost use Rattle.gen_tool.specs.Jobs.{holes_job};
 
-use crate::jobs::{chain_job, combination_job, pair_job};
+use crate::jobs::{chain_job, combination_job, holes_job, pair_job};
 use chain_tool::homology_of_file;
 use command_line::{Command, ToolName};
 use faults::Fault;
+use gen_tool::generate;
 use loading::Answer;
 use outside::Files;
 use pair_tool::homology_of_pair;
@@ -31,6 +33,7 @@ pub fn answer_by<F: Files>(
         ToolName::Cubnbhd => set_tools::neighbours(alloc, files, command.first()),
         ToolName::Cubcells => set_tools::cells(alloc, files, command.first()),
         ToolName::Homchain => chain_answer(alloc, files, command),
+        ToolName::Gen => holes_answer(alloc, files, command),
     }
 }
 
@@ -64,4 +67,13 @@ fn chain_answer<F: Files>(alloc: Global, files: &mut F, command: &Command) -> Re
 {
     let job = chain_job(alloc, command)?;
     homology_of_file(alloc, files, &job)
+}
+
+// Squares with holes, or their homology.
+fn holes_answer<F: Files>(alloc: Global, files: &mut F, command: &Command) -> Result<Answer, Fault>
+    ensures { Answers (holes_job (holes_of command.now))
+        (F.seen files.old) (F.seen files.new) result }
+{
+    let job = holes_job(command);
+    generate(alloc, files, &job)
 }

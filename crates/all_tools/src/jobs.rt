@@ -1,12 +1,13 @@
 //! Commands as the jobs of tools.
-ghost use Rattle.std.specs.Prelude.{Ok};
+ghost use Rattle.std.specs.Prelude.{◌≡◌, ◌≤◌, Ok};
 ghost use Rattle.loading.specs.Steps.{IsDue};
-ghost use Rattle.all_tools.specs.Jobs.{pair_of, two_files, chain_of};
+ghost use Rattle.all_tools.specs.Jobs.{pair_of, two_files, chain_of, holes_of};
 
 use basis_reports::Modulus;
 use chain_tool::ChainJob;
 use command_line::Command;
 use faults::{Fault, Name};
+use gen_tool::HolesJob;
 use pair_tool::PairJob;
 use set_tools::{Combination, CombinationJob};
 use std::alloc::Global;
@@ -55,4 +56,16 @@ pub fn chain_job(alloc: Global, command: &Command) -> Result<ChainJob, Fault>
         modulus: Modulus::of_table(command.options().modulus()),
         cycles: command.options().cycles(),
     })
+}
+
+/// Squares with holes that are wanted, or their homology.
+pub fn holes_job(command: &Command) -> HolesJob
+    ensures job { result ≡ holes_of command.now }
+    ensures few { result.holes ≤ 527 }
+{
+    HolesJob {
+        holes: command.holes().unwrap_or(1),
+        set_alone: command.options().set_alone(),
+        modulus: Modulus::of_table(command.options().modulus()),
+    }
 }

@@ -34,11 +34,7 @@ pub struct HolesJob {
 
 /// The squares with holes, or their homology. No file is read.
 #[tactic(auto, unfolding(crate::specs::Jobs::holes_job))]
-pub fn generate<F: Files>(
-    alloc: Global,
-    _files: &mut F,
-    job: &HolesJob,
-) -> Result<Answer, Fault>
+pub fn generate<F: Files>(alloc: Global, _files: &mut F, job: &HolesJob) -> Result<Answer, Fault>
     requires { job.now.holes ≤ MOST_HOLES }
     ensures { Answers (holes_job job.now) (F.seen _files.old) (F.seen _files.new) result }
 {

@@ -1,15 +1,16 @@
 -- What words say, word by word.
 use Rattle.std.proofs.Common.{◌≡◌, ℕ, ◌+◌, ◌<◌, List, [], ◌∷◌, ◌++◌, length, get_or, drop, drop_of_length-le, Option, None, Some, Ok, Err, String, string_bytes, refl, sym, ap, ◌∙◌, arith, append_assoc, append-nil, ◌⊎◌, inl, inr}
-use Rattle.std.specs.Option.{option_map}
+use Rattle.std.specs.Option.{option_map, option_and_then}
 use Rattle.std.proofs.lemmas.List.{drop_more}
 use Rattle.faults.specs.declared.fault.Fault.{Fault}
 use Rattle.faults.specs.declared.fault.Fault.TheVariants.{NotAForm, OutOfMemory}
 use Rattle.command_line.specs.declared.word.Next.{Next}
+use Rattle.command_line.specs.declared.word.Next.TheVariants.{Anything}
 use Rattle.command_line.specs.declared.word.Said.{Said}
 use Rattle.command_line.specs.declared.word.Said.TheVariants.{Nothing, Operand, Set}
 use Rattle.command_line.specs.declared.word.WordRead.{WordRead}
-use Rattle.command_line.specs.Forms.{Row, Spoken, spoken, word_read, also, after, at_end, word_first, words_read}
-use Rattle.command_line.specs.Words.{formed}
+use Rattle.command_line.specs.Forms.{Row, Spoken, spoken, form_named, word_read, also, after, at_end, word_first, words_read}
+use Rattle.command_line.specs.Words.{Request, formed, request_of, command_with, command_of}
 
 pub formed_some : {A : Type 0} (form : Row) (o : Option A) (x : A) → formed form o ≡ Ok x → o ≡ Some x
 formed_some form None x e = cc
@@ -64,3 +65,13 @@ module _ {A : Type 0} (form : Row) (next : Next) (so_far : Spoken) (words : List
 
   pub all_read : at_end next ≡ Some (record { operands = []; settings = [] }) → whole ≡ Some so_far
   all_read e = sym at_the_end ∙ ap (option_map (onto so_far)) e ∙ ap (λ s. Some s) (onto_nothing so_far)
+
+-- what the words of a tool ask for, once they are read
+pub asked : {A : Type 0} (all rest : List (String A)) (w : String A) (name : List ℕ) (form : Row) (arguments : Spoken) (o : Option Request) → all ≡ w ∷ rest → name ≡ string_bytes w
+    → Some form ≡ form_named name → formed form (words_read form Anything (spoken rest)) ≡ Ok arguments → o ≡ request_of form arguments → command_of (spoken all) ≡ formed form o
+asked all rest w name form arguments o split same named read e =
+    ap (λ ws. command_of (spoken ws)) split
+    ∙ ap (λ n. command_with (form_named n) (spoken rest)) (sym same)
+    ∙ ap (λ f. command_with f (spoken rest)) (sym named)
+    ∙ ap (λ r. formed form (option_and_then (request_of form) r)) (formed_some form (words_read form Anything (spoken rest)) arguments read)
+    ∙ ap (formed form) (sym e)

@@ -6,6 +6,8 @@ mod case_tests;
 #[cfg(test)]
 mod chain_tests;
 #[cfg(test)]
+mod gen_tests;
+#[cfg(test)]
 mod homology_tests;
 #[cfg(test)]
 mod limit_tests;
