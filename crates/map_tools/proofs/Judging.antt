@@ -1,10 +1,10 @@
 -- The jobs of this crate are judged in one way.
-use Rattle.std.proofs.Common.{◌≡◌, ◌≢◌, ◌⊎◌, inl, inr, ⊎_elim, ℕ, ◌<◌, ◌≤◌, ◌^◌, refl, sym, ap, ◌∙◌, subst, arith, List, length, Bool, true, false, cond}
+use Rattle.std.proofs.Common.{◌≡◌, ◌≢◌, ◌⊎◌, inl, inr, ⊎_elim, ℕ, refl, sym, ap, ◌∙◌, arith, List, length, Bool, true, false, cond}
 use Rattle.std.specs.List.{list_any}
 use Rattle.std.specs.Prelude.{◌==◌}
-use Rattle.std.proofs.lemmas.Bool.{cases_lt, cases_Bool}
+use Rattle.std.proofs.lemmas.Bool.{cases_lt}
 use Rattle.field_mod.specs.Modular.{IsField}
-use Rattle.field_mod.specs.Moduli.{moduli, IsModulus}
+use Rattle.field_mod.specs.Moduli.{moduli}
 use Rattle.field_mod.proofs.Table.{is_field}
 use Rattle.elem_cubes.specs.Cells.{Factor}
 use Rattle.cube_sets.specs.Closures.{cells_of}

@@ -1,10 +1,10 @@
 -- Which faults refuse a map: one can be found or there is none, and all that do are one but for its chains.
-use Rattle.std.proofs.Common.{◌≡◌, ◌≢◌, ◌⊎◌, inl, inr, ⊎_elim, ℕ, ◌<◌, ◌≤◌, ◌^◌, refl, sym, ap, ◌∙◌, subst, arith, List, [], length, Bool, true, false}
+use Rattle.std.proofs.Common.{◌≡◌, ◌≢◌, ◌⊎◌, inl, inr, ⊎_elim, ℕ, ◌<◌, ◌≤◌, ◌^◌, refl, sym, ap, ◌∙◌, subst, List, [], length, Bool, true, false}
 use Rattle.std.specs.List.{Contains}
 use Rattle.std.proofs.lemmas.Bool.{true≢false, cases_Bool}
 use Rattle.field_mod.specs.Modular.{IsField}
 use Rattle.elem_cubes.specs.Cells.{Factor}
-use Rattle.cube_sets.specs.Closures.{is_cell_of, cells_of}
+use Rattle.cube_sets.specs.Closures.{cells_of}
 use Rattle.cube_maps.specs.CubeMaps.{Naming, names, value_of}
 use Rattle.cell_complex.specs.Acyclic.{IsAcyclic}
 use Rattle.cell_complex.specs.Numbering.{cell_terms}
@@ -12,7 +12,7 @@ use Rattle.cell_complex.proofs.Deciding.{has_from, from_has}
 use Rattle.acyclic_values.specs.Values.{IsValueAt}
 use Rattle.acyclic_values.specs.CarriedMaps.{GoesInto}
 use Rattle.acyclic_values.specs.Faults.{IsHoleOf}
-use Rattle.acyclic_values.specs.Deciding.{SomeHole, DecidedValue, IsNormalHole}
+use Rattle.acyclic_values.specs.Deciding.{DecidedValue, IsNormalHole}
 use Rattle.acyclic_values.specs.declared.hole.Hole.{Hole}
 use Rattle.acyclic_values.specs.declared.hole.Hole.TheVariants.{Empty, Class}
 use Rattle.acyclic_values.proofs.Cells.{cells_listing}
@@ -20,7 +20,7 @@ use Rattle.acyclic_values.proofs.Values.{values_are_one}
 use Rattle.acyclic_values.proofs.Deciding.{values_are_decided, holes_have_one_degree}
 use Rattle.acyclic_values.proofs.Contracting.{never_both}
 use Rattle.map_checks.specs.Firsts.{IsFirstOf}
-use Rattle.map_checks.specs.Faults.{AreNamed, IsOutside, Leaves, IsFirstOutside, IsHollowAt}
+use Rattle.map_checks.specs.Faults.{AreNamed, Leaves, IsFirstOutside, IsHollowAt}
 use Rattle.faults.specs.declared.fault.Fault.{Fault}
 use Rattle.faults.specs.declared.fault.Fault.TheVariants.{NoTool, NotAForm, CannotRead, BadText, NotComplex, Dimension, Limit, Undefined, LeavesRange, LeavesSubset, EmptyValue, NotAcyclic, CannotWriteOut, OutOfMemory}
 use Rattle.faults.specs.Statuses.{status_of, without_chain}

@@ -10,7 +10,7 @@ use Rattle.faults.specs.declared.fault.Fault.{Fault}
 use Rattle.faults.specs.declared.fault.Fault.TheVariants.{Dimension, Limit}
 use Rattle.faults.specs.declared.limit_name.LimitName.TheVariants.{Cells}
 use Rattle.loading.specs.Steps.{Then, Is}
-use Rattle.loading.specs.Readings.{Reading, read_bytes}
+use Rattle.loading.specs.Readings.{Reading}
 use Rattle.loading.specs.Sets.{IsSetIn}
 use Rattle.loading.specs.Maps.{IsMapIn}
 use Rattle.loading.specs.Jobs.{Job}
