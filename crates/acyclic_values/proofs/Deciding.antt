@@ -165,6 +165,7 @@ module _ (p : ℕ) (V : List (List Factor)) (K : ChainComplex) (ss : List Step) 
           (λ g l. exact p (listed_past p (length V) Z one g l)),
           (λ g l. exact p (listed_past p (length V) W one g l)),
         );
+        normal = (widened p 0 (length V) (2 ^ 32) z.terms z.normal (omega (arith, ck.short)), widened p 0 (length V) (2 ^ 32) w.terms w.normal (omega (arith, ck.short)));
       }
 
   beside : (u : ℕ) → IsLeftVertex K ss u → (best : Option ℕ) → IsBestBelow K ss u (length K.boundaries) best → IsAcyclic p V ⊎ SomeHole p V
@@ -176,7 +177,7 @@ module _ (p : ℕ) (V : List (List Factor)) (K : ChainComplex) (ss : List Step) 
   decided : IsAcyclic p V ⊎ SomeHole p V
   decided = ⊎_elim
       (λ w. let best = best_below K ss w.0 (length K.boundaries) in beside w.0 (record { inside = w.1; lowest = w.2; left = w.3 }) best.0 best.1)
-      (λ none. inr (record { hole = Empty; of_cells = some_vertex_is_left p V K ss two cl ck st (λ g l d u. none g (omega (arith, l, ck.count)) (ap (λ ds. get_or ds g 0) ck.degrees ∙ get_or-map dimension_of V g [] 0 l ∙ d) u) }))
+      (λ none. inr (record { hole = Empty; normal = tt; of_cells = some_vertex_is_left p V K ss two cl ck st (λ g l d u. none g (omega (arith, l, ck.count)) (ap (λ ds. get_or ds g 0) ck.degrees ∙ get_or-map dimension_of V g [] 0 l ∙ d) u) }))
       (vertex_below K ss (length K.boundaries))
 
 pub acyclic_or_hole : AcyclicOrHole

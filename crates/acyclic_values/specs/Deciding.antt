@@ -8,7 +8,9 @@ use Rattle.algebraic_reduction.specs.Laws.{AreStepsOf, NothingLeft}
 use Rattle.cube_sets.specs.Closures.{is_cell_of, cells_of}
 use Rattle.cube_maps.specs.CubeMaps.{Naming}
 use Rattle.cell_complex.specs.Acyclic.{IsAcyclic, IsHole}
+use Rattle.chains.specs.Terms.{IsNormal}
 use Rattle.acyclic_values.specs.declared.hole.Hole.{Hole}
+use Rattle.acyclic_values.specs.declared.hole.Hole.TheVariants.{Empty, Class}
 use Rattle.acyclic_values.specs.Contractions.{IsCellList}
 use Rattle.acyclic_values.specs.Faults.{IsHoleOf}
 use Rattle.acyclic_values.specs.Values.{IsValueAt}
@@ -20,10 +22,16 @@ pub record FullReduction (p : ℕ) (K : ChainComplex) : Type 0 where
   pub made : AreStepsOf p K steps
   pub nothing : NothingLeft p K steps
 
+-- the chains of the hole are in normal form
+abbrev pub IsNormalHole : (p : ℕ) → Hole p → Type 0
+IsNormalHole p Empty = Unit {0}
+IsNormalHole p (Class k z w) = IsNormal p z × IsNormal p w
+
 -- a hole of a list of cells
 pub record SomeHole (p : ℕ) (cells : List (List Factor)) : Type 0 where
   pub hole : Hole p
   pub of_cells : IsHoleOf p cells hole
+  pub normal : IsNormalHole p hole
 
 -- each complex has steps that leave no boundary
 abbrev pub ReductionsExist : Type 0

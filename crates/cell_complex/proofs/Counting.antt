@@ -83,7 +83,7 @@ has-closures x q =
 cells_are : (x : List (List Factor)) (q : List Factor) → has_cell (cells_of x) q ≡ is_cell_of x q
 cells_are x q = sym (has_is (cells_of x) q) ∙ cells_are_faces.faces x q
 
-counted : (x keys : List (List Factor)) → IsDistinct same_cell keys → ((q : List Factor) → has_cell keys q ≡ is_cell_of x q) → length keys ≡ cell_count x
+pub counted : (x keys : List (List Factor)) → IsDistinct same_cell keys → ((q : List Factor) → has_cell keys q ≡ is_cell_of x q) → length keys ≡ cell_count x
 counted x keys distinct h = length-from_keys same_cell_equivalence keys (flat_map closure_of x) distinct (λ q. h q ∙ sym (has-closures x q))
 
 pub counted_below : (x keys : List (List Factor)) → IsDistinct same_cell keys → ((q : List Factor) → has_cell keys q ≡ true → is_cell_of x q ≡ true) → length keys ≤ cell_count x

@@ -1,0 +1,4 @@
+pub mod FirstCells
+pub mod Refusing
+pub mod ThreeFiles
+pub mod Judging

@@ -1,0 +1,3 @@
+-- What the tool on the values of maps is asked to do.
+pub mod MapRefusals
+pub mod Jobs
