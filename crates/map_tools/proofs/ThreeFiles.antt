@@ -1,5 +1,5 @@
 -- The files of a map and of two sets.
-use Rattle.std.proofs.Common.{◌≡◌, ℕ, Bool, true, false, cond, List, [], ◌∷◌, Result, Ok, Err, IfOk, IfErr, subst, sym, ◌+◌, ◌≤◌, ◌⊎◌, inl, inr, arith}
+use Rattle.std.proofs.Common.{◌≡◌, ℕ, Bool, true, false, cond, List, [], ◌∷◌, Result, Ok, Err, IfOk, IfErr, subst, sym, ◌+◌, ◌⊎◌, inl, inr, arith}
 use Rattle.cube_sets.specs.Sets.{Members, dimensions_agree}
 use Rattle.cube_maps.specs.CubeMaps.{Mapping}
 use Rattle.grid_files.specs.declared.fault.Kind.TheVariants.{Full}
