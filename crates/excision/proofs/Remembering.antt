@@ -3,7 +3,7 @@ use Rattle.std.proofs.Common.{◌≡◌, ◌≢◌, ◌↔◌, ℕ, zero, suc, �
 use Rattle.std.specs.Prelude.{ℤ, ◌+ℤ◌, neg_ℤ, IsTrue}
 use Rattle.std.specs.List.{Contains, filter, list_all}
 use Rattle.std.specs.Ordering.{nat_cmp}
-use Rattle.std.specs.BTreeMap.{BTreeMap, get, Updates}
+use Rattle.std.specs.BTreeMap.{BTreeMap, get, is_at, Updates}
 use Rattle.std.proofs.lemmas.Bool.{true≢false, cases_eq, cases_Bool, and_parts}
 use Rattle.std.proofs.lemmas.Int.{ints}
 use Rattle.std.proofs.lemmas.List.{length-map}
@@ -27,7 +27,7 @@ use Rattle.excision.specs.Known.{mask_from, Tells, AreKnown}
 
 -- ---- from one full cube to another
 
-differences : List Factor → List Factor → List ℤ
+pub differences : List Factor → List Factor → List ℤ
 differences [] rs = []
 differences (q ∷ qs) [] = []
 differences (q ∷ qs) (r ∷ rs) = (lower r +ℤ neg_ℤ (lower q)) ∷ differences qs rs
@@ -99,13 +99,22 @@ tells p q s b wide inner told r t long wider closed mask =
 
 -- ---- one more answer
 
-some_parts : {k : ℕ} {x y : Bool} → ◌≡◌ {A = Option Bool} (Some x) (Some y) → x ≡ y
-some_parts e = cc
+some_parts : (x y : Bool) → ◌≡◌ {A = Option Bool} (Some x) (Some y) → x ≡ y
+some_parts x y e = cc
 
 pub known_more : (p n : ℕ) (old new : BTreeMap ℕ Bool) (mask : ℕ) (b : Bool) → AreKnown p n old → Tells p n mask b → Updates nat_cmp old new mask (Some b) → AreKnown p n new
 known_more p n old new mask b known told u k c e = ⊎_elim
     (λ q.
-    let here : get nat_cmp new k ≡ Some b = u.0 k ∙ ap (λ v. cond v (Some b) (get nat_cmp old k)) (ap (λ x. Rattle.std.specs.BTreeMap.is_at (nat_cmp k) x) (sym q) ∙ at_same k) in
-    subst (λ (d : Bool). Tells p n k d) (some_parts {k = k} (sym here ∙ e)) (subst (λ (m : ℕ). Tells p n m b) (sym q) told))
-    (λ d. known k c (sym (u.0 k ∙ ap (λ v. cond v (Some b) (get nat_cmp old k)) (at_other k mask d)) ∙ e))
+    let here : get nat_cmp new k ≡ Some b = u.0 k ∙ ap (λ v. cond v (Some b) (get nat_cmp old k)) (ap (λ (m : ℕ). is_at (nat_cmp m) k) (sym q) ∙ at_same k) in
+    subst (λ (d : Bool). Tells p n k d) (some_parts b c (sym here ∙ e)) (subst (λ (m : ℕ). Tells p n m b) (sym q) told))
+    (λ d. known k c (sym (u.0 k ∙ ap (λ v. cond v (Some b) (get nat_cmp old k)) (at_other mask k (λ q. d (sym q)))) ∙ e))
     (cases_eq k mask)
+
+pub known_alike : (p m n : ℕ) (answers : BTreeMap ℕ Bool) → m ≡ n → AreKnown p m answers → AreKnown p n answers
+known_alike p m n answers e known = subst (λ (k : ℕ). AreKnown p k answers) e known
+
+pub none_known : (p n : ℕ) (answers : BTreeMap ℕ Bool) → ((mask : ℕ) → get nat_cmp answers mask ≡ None) → AreKnown p n answers
+none_known p n answers none mask b e = absurd (different b (sym (none mask) ∙ e))
+  where
+    different : (c : Bool) → ◌≢◌ {A = Option Bool} None (Some c)
+    different c e = cc
