@@ -91,8 +91,7 @@ tells p q s b wide inner told r t long wider closed mask =
     let closures : closure_of r ≡ map (moved vs) (closure_of q) = ap closure_of (sym to) ∙ closure-moved vs q in
     let cells : cells_in t r ≡ map (moved vs) (cells_in s q) = (same_mask (moved vs) s t (closure_of q) (closure_of r) 0 0 closures (sym mask)).1 in
     let here = lists_and_sets p (cells_in s q) (closed_cells q s inner) (cells_in_once s q) in
-    let there = lists_and_sets p (cells_in t r) (closed_cells r t closed) (cells_in_once t r) in
-    (
+    let there = lists_and_sets p (cells_in t r) (closed_cells r t closed) (cells_in_once t r) in (
       (λ e. there.1 (subst (λ (cs : List (List Factor)). IsAcyclicList p cs) (sym cells) (acyclic_moved p vs (cells_in s q) (here.0 (told.0 e))))),
       (λ a. told.1 (here.1 (subst (λ (cs : List (List Factor)). IsAcyclicList p cs) (ap (map (moved (map neg_ℤ vs))) cells ∙ moved_back vs (cells_in s q)) (acyclic_moved p (map neg_ℤ vs) (cells_in t r) (there.0 a))))),
     )

@@ -56,9 +56,15 @@ pub fn grow<const P: u16>(
     let owners = Owners::of(alloc, cells, x)?;
     let mut waiting = Waiting::below(alloc, x.len())?;
     let mut known = BTreeMap::new(alloc);
-    'moves: while let Some(cube) =
-        next_movable(alloc, field, &log, cells, x, &mut waiting, &mut known)?
-    {
+    'moves: while let Some(cube) = next_movable(
+        alloc,
+        field,
+        &log,
+        cells,
+        x,
+        &mut waiting,
+        &mut known,
+    )? {
         let faces = left_faces(alloc, &log, cells, &cube)?;
         wake(&owners, &faces, &mut waiting)?;
         let _ = log.step_count();

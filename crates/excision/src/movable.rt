@@ -66,7 +66,11 @@ fn mask_of<const P: u16>(log: &Log<P>, cells: &Numbered, cell: &Cell) -> Option<
         let Some(double) = mask.checked_mul(2) else {
             return None;
         };
-        mask = if is_gone(log, cells, &face) { double + 1 } else { double };
+        mask = if is_gone(log, cells, &face) {
+            double + 1
+        } else {
+            double
+        };
     }
     Some(mask)
 }

@@ -34,5 +34,5 @@ pub looking-preserved : goal.looking-preserved
 looking-preserved g c = record {
   known = known_alike g.row.P (length c.cell-cube.result) c.args.x.now.dimension c.is_movable.new.known (member_parts c.args.x.now.dimension c.cell-cube.result c.cell-cube.ensures.member).0 c.in_ok-is_movable.ensures.known;
   idle = idle_next (λ j. IsMovableInto g.row.P (is_gone c.args.cells.now c.args.log.now.steps) (cell_at c.args.x.now.cells j)) (length c.args.x.now.cells) c.in-Some.member c.looking.waiting _ c.in-Some.ensures.kept c.looking.invariant.idle
-    (λ l m. true≢false (sym (c.in_ok-is_movable.ensures.movable.1 (subst (λ (q : List Factor). IsMovableInto g.row.P (is_gone c.args.cells.now c.args.log.now.steps) q) (get_or_from_slice_get c.args.x.now.cells c.in-Some.member c.cell-cube.result [] c.cell-cube.ensures.cell) m)) ∙ c.if-branch.false));
+      (λ l m. true≢false (sym (c.in_ok-is_movable.ensures.movable.1 (subst (λ (q : List Factor). IsMovableInto g.row.P (is_gone c.args.cells.now c.args.log.now.steps) q) (get_or_from_slice_get c.args.x.now.cells c.in-Some.member c.cell-cube.result [] c.cell-cube.ensures.cell) m)) ∙ c.if-branch.false));
 }
