@@ -13,3 +13,4 @@ pub mod Drawing
 pub mod Alike
 pub mod Meeting
 pub mod Going
+pub mod Translating

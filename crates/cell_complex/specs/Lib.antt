@@ -6,5 +6,6 @@ pub mod CellCount
 pub mod Acyclic
 pub mod AcyclicLists
 pub mod Growth
+pub mod Moved
 pub mod FreePairs
 pub mod Laws

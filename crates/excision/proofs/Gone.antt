@@ -109,11 +109,14 @@ module _ (t : List Factor → Bool) (q : List Factor) (inner : IsClosedIn q t) (
       let v = of_dead c w in
       from-In dead r (has_In dead r (same r ∙ face-cells_in t q r (face_trans q c r v.0 f) (inner c r v.0 f v.1)))
 
-  pub movable_told : (p : ℕ) (b : Bool) → t q ≡ false → ((b ≡ true → IsAcyclic p dead) × (IsAcyclic p dead → b ≡ true)) → (b ≡ true → IsMovableInto p t q) × (IsMovableInto p t q → b ≡ true)
-  movable_told p b new h = (
-    (λ e. record { new = new; acyclic = of_cells p dead (cells_in t q) (cells_alike dead (cells_in t q) same) (h.0 e) }),
-    (λ m. h.1 (of_cells p (cells_in t q) dead (cells_alike (cells_in t q) dead (λ c. sym (same c))) m.acyclic)),
+  pub acyclic_told : (p : ℕ) (b : Bool) → ((b ≡ true → IsAcyclic p dead) × (IsAcyclic p dead → b ≡ true)) → (b ≡ true → IsAcyclic p (cells_in t q)) × (IsAcyclic p (cells_in t q) → b ≡ true)
+  acyclic_told p b h = (
+    (λ e. of_cells p dead (cells_in t q) (cells_alike dead (cells_in t q) same) (h.0 e)),
+    (λ a. h.1 (of_cells p (cells_in t q) dead (cells_alike (cells_in t q) dead (λ c. sym (same c))) a)),
   )
+
+pub movable_told : (p : ℕ) (t : List Factor → Bool) (q : List Factor) (b : Bool) → t q ≡ false → ((b ≡ true → IsAcyclic p (cells_in t q)) × (IsAcyclic p (cells_in t q) → b ≡ true)) → (b ≡ true → IsMovableInto p t q) × (IsMovableInto p t q → b ≡ true)
+movable_told p t q b new h = ((λ e. record { new = new; acyclic = h.0 e }), (λ m. h.1 m.acyclic))
 
 pub ok_by : {E : Type 0} (P Q : Bool → Type 0) (r : Result Bool E) → IfOk r P → ((b : Bool) → P b → Q b) → IfOk r Q
 ok_by P Q (Ok b) h f = f b h

@@ -10,3 +10,4 @@ pub mod Parted
 pub mod Owning
 pub mod Moved
 pub mod Marking
+pub mod Remembering

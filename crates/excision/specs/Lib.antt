@@ -4,3 +4,4 @@ pub mod Marks
 pub mod Taking
 pub mod Owners
 pub mod Laws
+pub mod Known

@@ -5,6 +5,7 @@ ghost use Rattle.elem_cubes.specs.Cells.{Factor};
 ghost use Rattle.elem_cubes.specs.Laws.{cell_at};
 ghost use Rattle.cell_complex.specs.Numbering.{IsComplexOf, IsRelativeComplex};
 ghost use Rattle.cell_complex.specs.Growth.{IsFinishedGrowth};
+ghost use Rattle.excision.specs.Known.{AreKnown};
 ghost use Rattle.excision.specs.Left.{is_gone, is_one_of, IsMovableInto, IsClosedIn};
 ghost use Rattle.excision.specs.Owners.{Names};
 ghost use Rattle.excision.specs.Taking.{TakeFaces};
@@ -19,6 +20,7 @@ use cube_sets::CubeSet;
 use elem_cubes::Cell;
 use field_mod::Field;
 use std::alloc::{AllocError, Global};
+use std::collections::BTreeMap;
 
 /// A log whose steps take the faces of some cubes, and these cubes in the order in which they were moved.
 #[derive(Drop)]
@@ -53,7 +55,16 @@ pub fn grow<const P: u16>(
     }
     let owners = Owners::of(alloc, cells, x)?;
     let mut waiting = Waiting::below(alloc, x.len())?;
-    'moves: while let Some(cube) = next_movable(alloc, field, &log, cells, x, &mut waiting)? {
+    let mut known = BTreeMap::new(alloc);
+    'moves: while let Some(cube) = next_movable(
+        alloc,
+        field,
+        &log,
+        cells,
+        x,
+        &mut waiting,
+        &mut known,
+    )? {
         let faces = left_faces(alloc, &log, cells, &cube)?;
         wake(&owners, &faces, &mut waiting)?;
         let _ = log.step_count();
@@ -73,10 +84,13 @@ fn next_movable<const P: u16>(
     cells: &Numbered,
     x: &CubeSet,
     waiting: &mut Waiting,
+    known: &mut BTreeMap<u64, bool>,
 ) -> Result<Option<Cell>, AllocError>
     requires complex { IsComplexOf P cells.now log.now.complex }
     requires closed { (q : List Factor) → Contains x.now.cells q → IsClosedIn q (is_gone cells.now log.now.steps) }
+    requires known { AreKnown P x.now.dimension known.old }
     requires idle { (j : ℕ) → j < length x.now.cells → is_one_of waiting.old j ≡ false → ¬ IsMovableInto P (is_gone cells.now log.now.steps) (cell_at x.now.cells j) }
+    ensures known { OnOk result (AreKnown P x.now.dimension known.new) }
     ensures some { IfOk result (λ o. IfSome o (IsMovableInto P (is_gone cells.now log.now.steps))) }
     ensures member { IfOk result (λ o. IfSome o (Contains x.now.cells)) }
     ensures rest { IfOk result (λ o. IfSome o (λ q. (j : ℕ) → j < length x.now.cells → is_one_of waiting.new j ≡ false → cell_at x.now.cells j ≢ q → ¬ IsMovableInto P (is_gone cells.now log.now.steps) (cell_at x.now.cells j))) }
@@ -87,7 +101,7 @@ fn next_movable<const P: u16>(
             continue;
         }
         let cube = x.cell(member);
-        if is_movable(alloc, field, log, cells, &cube)? {
+        if is_movable(alloc, field, log, cells, &cube, known)? {
             return Ok(Some(cube));
         }
     }

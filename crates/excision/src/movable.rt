@@ -1,11 +1,14 @@
 //! Which cells may be moved into the cells that a log has taken.
-ghost use Rattle.std.specs.Prelude.{◌≡◌, ◌↔◌, ℕ, ◌<◌, List, length, true, IsTrue, IfOk};
+ghost use Rattle.std.specs.Prelude.{◌≡◌, ◌↔◌, ℕ, ◌<◌, List, length, true, IsTrue, IfOk, OnOk, IfSome};
 ghost use Rattle.std.specs.List.{Contains, list_all};
 ghost use Rattle.elem_cubes.specs.Cells.{Factor, is_file_factor};
+ghost use Rattle.elem_cubes.specs.Faces.{closure_of};
 ghost use Rattle.elem_cubes.specs.Order.{cell_cmp};
 ghost use Rattle.cube_sets.specs.Sorted.{has};
+ghost use Rattle.cell_complex.specs.Acyclic.{IsAcyclic};
 ghost use Rattle.cell_complex.specs.Growth.{cells_in};
 ghost use Rattle.cell_complex.specs.Numbering.{IsComplexOf};
+ghost use Rattle.excision.specs.Known.{AreKnown, mask_from};
 ghost use Rattle.excision.specs.Left.{is_gone, IsMovableInto, IsClosedIn, IsLeftFace};
 
 use crate::deciding::is_acyclic;
@@ -16,9 +19,64 @@ use cube_sets::CubeSet;
 use elem_cubes::Cell;
 use field_mod::Field;
 use std::alloc::{AllocError, Global};
+use std::collections::BTreeMap;
 
-// Whether a cell may be moved into the cells that are not left.
+// Whether a cell may be moved into the cells that are not left. What full cubes were asked for is remembered by the mask of
+// their faces that are not left.
 pub(crate) fn is_movable<const P: u16>(
+    alloc: Global,
+    field: Field<P>,
+    log: &Log<P>,
+    cells: &Numbered,
+    cell: &Cell,
+    known: &mut BTreeMap<u64, bool>,
+) -> Result<bool, AllocError>
+    requires range { list_all is_file_factor cell.now ≡ true }
+    requires complex { IsComplexOf P cells.now log.now.complex }
+    requires closed { IsClosedIn cell.now (is_gone cells.now log.now.steps) }
+    requires known { AreKnown P (length cell.now) known.old }
+    ensures movable { IfOk result (λ b. IsTrue b ↔ IsMovableInto P (is_gone cells.now log.now.steps) cell.now) }
+    ensures known { OnOk result (AreKnown P (length cell.now) known.new) }
+{
+    if is_gone(log, cells, cell) {
+        return Ok(false);
+    }
+    if !cell.is_full() {
+        return are_acyclic(alloc, field, log, cells, cell);
+    }
+    let Some(mask) = mask_of(log, cells, cell) else {
+        return are_acyclic(alloc, field, log, cells, cell);
+    };
+    if let Some(answer) = known.get(&mask).copied() {
+        return Ok(answer);
+    }
+    let answer = are_acyclic(alloc, field, log, cells, cell)?;
+    let _ = known.insert(mask, answer)?;
+    Ok(answer)
+}
+
+// A bit for each face of a cell, in the order of the closure, the first one highest: 1 where the face is not left. There is
+// no mask where the bits are too many.
+fn mask_of<const P: u16>(log: &Log<P>, cells: &Numbered, cell: &Cell) -> Option<u64>
+    requires { IsComplexOf P cells.now log.now.complex }
+    ensures { IfSome result (λ mask. mask_from 0 (is_gone cells.now log.now.steps) (closure_of cell.now) ≡ mask) }
+{
+    let mut mask = 0u64;
+    for face in cell.closure() {
+        let Some(double) = mask.checked_mul(2) else {
+            return None;
+        };
+        mask = if is_gone(log, cells, &face) {
+            double + 1
+        } else {
+            double
+        };
+    }
+    Some(mask)
+}
+
+// Whether the faces of a cell that are not left are acyclic.
+fn are_acyclic<const P: u16>(
     alloc: Global,
     field: Field<P>,
     log: &Log<P>,
@@ -28,11 +86,8 @@ pub(crate) fn is_movable<const P: u16>(
     requires range { list_all is_file_factor cell.now ≡ true }
     requires complex { IsComplexOf P cells.now log.now.complex }
     requires closed { IsClosedIn cell.now (is_gone cells.now log.now.steps) }
-    ensures { IfOk result (λ b. IsTrue b ↔ IsMovableInto P (is_gone cells.now log.now.steps) cell.now) }
+    ensures { IfOk result (λ b. IsTrue b ↔ IsAcyclic P (cells_in (is_gone cells.now log.now.steps) cell.now)) }
 {
-    if is_gone(log, cells, cell) {
-        return Ok(false);
-    }
     let gone = gone_faces(alloc, log, cells, cell)?;
     let _ = gone.len();
     is_acyclic(alloc, field, &gone)

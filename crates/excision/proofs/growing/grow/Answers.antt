@@ -30,7 +30,10 @@ next_movable-requires g c =
           subst (λ (M : ChainComplex). IsComplexOf g.row.P c.args.cells.now M) (sym i.complex) c.requires.complex.complex,
           (
             (λ q w. gone_closed x a c.args.cells.now c.moves.cubes c.moves.log.steps c.len.ensures.sorted L i.taken q w),
-            (λ j l f m. i.idle j l f (movable_from x a c.args.cells.now c.moves.cubes c.moves.log.steps c.len.ensures.sorted L i.taken g.row.P (cell_at x j) (Contains-get_or x j [] l) m)),
+            (
+              i.known,
+              (λ j l f m. i.idle j l f (movable_from x a c.args.cells.now c.moves.cubes c.moves.log.steps c.len.ensures.sorted L i.taken g.row.P (cell_at x j) (Contains-get_or x j [] l) m)),
+            ),
           ),
         ),
       ),
@@ -91,6 +94,7 @@ moves-preserved g c =
       growth = subst (λ (cs : List (List Factor)). IsGrowth g.row.P x a cs) (sym c.in_ok-push.ensures.ok) (go_on g.row.P x a c.moves.cubes q i.growth w m);
       taken = subst (λ (cs : List (List Factor)). TakeFaces c.args.cells.now cs c.in_ok-log.log.steps) (sym c.in_ok-push.ensures.ok)
           (move_takes g.row.P x a c.args.cells.now c.moves.cubes c.args.log.complex c.moves.log.steps q (two_le g.row.P c.args.field.listed) c.requires.complex w m i.taken steps ns are c.in_ok-log.log.complex c.in_ok-log.log.steps (c.in_ok-log.ensures.complex ∙ i.complex) c.in_ok-log.ensures.further c.step_count-in-Some.ensures.steps c.in_ok-log.ensures.nothing_left);
+      known = c.in_ok-cube.ensures.known;
       idle = subst (λ (cs : List (List Factor)). (j : ℕ) → j < length x → is_one_of c.wake.new.waiting j ≡ false → ¬ IsMovable g.row.P (a ++ cs) (cell_at x j)) (sym c.in_ok-push.ensures.ok)
           (still_idle g.row.P x a c.args.cells.now c.moves.cubes c.args.log.complex c.moves.log.steps q (two_le g.row.P c.args.field.listed) c.requires.complex w m i.taken steps ms these c.in_ok-owners.owners c.next_movable.new.waiting c.wake.new.waiting c.len.ensures.sorted c.in_ok-owners.ensures.owners others c.in_ok-wake.ensures.kept c.in_ok-wake.ensures.woken);
     }

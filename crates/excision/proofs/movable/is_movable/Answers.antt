@@ -1,15 +1,16 @@
-use Rattle.std.proofs.Common.{◌∙◌, sym, arith}
-use Rattle.std.specs.Prelude.{◌↔◌, IsTrue}
-use Rattle.cell_complex.specs.Acyclic.{IsAcyclic}
-use Rattle.excision.specs.Left.{is_gone, IsMovableInto}
-use Rattle.excision.proofs.Gone.{dead_closed, movable_told, ok_by}
+use Rattle.std.proofs.Common.{◌≡◌, ℕ, true, sym, ◌∙◌, length, subst}
+use Rattle.std.specs.List.{list_all}
+use Rattle.elem_cubes.specs.Cells.{is_wide}
+use Rattle.excision.specs.Known.{Tells}
+use Rattle.excision.specs.Left.{is_gone}
+use Rattle.excision.proofs.Remembering.{tells, known_more}
 use Rattle.excision.proofs.movable.is_movable.Goals as goal
 
-pub is_acyclic-requires : goal.is_acyclic-requires
-is_acyclic-requires g c = (omega arith, dead_closed (is_gone c.args.cells.now c.args.log.now.steps) c.args.cell.now c.requires.closed c.in_ok-gone.gone c.in_ok-gone.ensures)
-
-pub returns : goal.returns
-returns g c =
-    let t = is_gone c.args.cells.now c.args.log.now.steps in
-    ok_by (λ b. IsTrue b ↔ IsAcyclic g.row.P c.in_ok-gone.gone) (λ b. IsTrue b ↔ IsMovableInto g.row.P t c.args.cell.now) c.is_acyclic.result c.is_acyclic.ensures
-    (λ b h. movable_told t c.args.cell.now c.requires.closed c.in_ok-gone.gone c.in_ok-gone.ensures g.row.P b (sym c.is_gone.ensures ∙ c.if-is_gone.false) h)
+pub returns-clause-known : goal.returns-clause-known
+returns-clause-known g c =
+    let p = g.row.P in
+    let q = c.args.cell.now in
+    let b = c.in_ok-answer.answer in
+    let wide : list_all is_wide q ≡ true = sym c.is_full.ensures ∙ c.if-not-is_full.false in
+    let told = tells p q (is_gone c.args.cells.now c.args.log.now.steps) b wide c.requires.closed c.in_ok-answer.ensures in
+    known_more p (length q) c.args.known.now c.insert.new.self c.in-Some.mask b c.requires.known (subst (λ (m : ℕ). Tells p (length q) m b) c.in-Some.ensures told) c.in_ok-insert.ensures.updates
