@@ -1,11 +1,12 @@
 -- What the generator makes, as promised of its job.
-use Rattle.std.proofs.Common.{◌≡◌, ◌≤◌, ◌<◌, ◌+◌, ◌*◌, ◌++◌, ℕ, List, [], ◌∷◌, length, Bool, true, false, Result, Ok, Err, IfOk, IfErr, refl, sym, ap, ◌∙◌, subst, ◌⊎◌, inl, inr, arith, true≢false, append-nil}
+use Rattle.std.proofs.Common.{◌≡◌, ◌≤◌, ◌<◌, ◌+◌, ◌*◌, ◌++◌, ℕ, List, [], ◌∷◌, length, Bool, true, false, Result, Ok, Err, IfOk, IfErr, refl, sym, ap, ◌∙◌, subst, ◌⊎◌, inl, inr, arith, true≢false, append-nil, filter}
 use Rattle.outside.specs.Seen.{Seen}
 use Rattle.elem_cubes.specs.Cells.{Factor}
 use Rattle.elem_cubes.specs.Order.{cell_cmp}
 use Rattle.cube_sets.specs.Sorted.{has}
 use Rattle.cube_sets.specs.Sets.{Members, holds}
 use Rattle.cell_complex.specs.CellCount.{cell_count}
+use Rattle.excision.specs.Excision.{excised, touches}
 use Rattle.report.specs.declared.pair.PairReport.{PairReport}
 use Rattle.basis_reports.specs.Right.{AreAsShown, IsRightPair}
 use Rattle.hole_squares.proofs.Counted.{squares_are_counted}
@@ -52,11 +53,11 @@ module _ (n : ℕ) (set none : Members) (is : IsHoleSet n set) (empty : (c : Lis
   without_members : none.cells ≡ []
   without_members = none_are none.cells empty
 
-  pub never_many : n ≤ 527 → 4194304 < cell_count (set.cells ++ none.cells) → ⊥
+  pub never_many : n ≤ 527 → 4194304 < cell_count (set.cells ++ (excised set none).cells) → ⊥
   never_many l more =
       let small = product_small n l in
       let number : 15 * n * n ≡ 15 * (n * n) = omega arith in
-      let count : cell_count (set.cells ++ none.cells) ≡ cell_number n = ap (λ a. cell_count (set.cells ++ a)) without_members ∙ ap cell_count (append-nil set.cells) ∙ cells_are_counted n set is in
+      let count : cell_count (set.cells ++ (excised set none).cells) ≡ cell_number n = ap (λ a. cell_count (set.cells ++ filter (touches set.cells) a)) without_members ∙ ap cell_count (append-nil set.cells) ∙ cells_are_counted n set is in
       omega (arith, more, count, small, number)
 
   pub right_summary : (p m squares : ℕ) (homology : PairReport) → m ≡ n → squares ≡ length set.cells

@@ -2,6 +2,7 @@
 ghost use Rattle.std.specs.Prelude.{◌≡◌, ◌<◌, ◌≤◌, ◌++◌, false, IfOk, IfErr, Err};
 ghost use Rattle.faults.specs.declared.fault.Fault.TheVariants.{OutOfMemory};
 ghost use Rattle.cell_complex.specs.CellCount.{cell_count};
+ghost use Rattle.excision.specs.Excision.{excised};
 ghost use Rattle.basis_reports.specs.Right.{AreAsShown, IsRightPair};
 ghost use Rattle.hole_squares.specs.Holes.{IsHoleSet};
 ghost use Rattle.loading.specs.Jobs.{Computes, Answers};
@@ -107,7 +108,7 @@ fn homology_of(
     ensures right { IfOk result (λ pair. AreAsShown false
         (IsRightPair modulus 2 x.now.cells a.now.cells pair.dimensions) pair.cycles) }
     ensures many { result ≡ Err CellsFault.TooManyCells
-        → CELLS < cell_count (x.now.cells ++ a.now.cells) }
+        → CELLS < cell_count (x.now.cells ++ (excised x.now a.now).cells) }
 {
     by_modulus!(modulus.number(), field => pair_homology(alloc, field, x, a, 2, false))
 }

@@ -1,5 +1,5 @@
 -- What `chkmvmap` is asked to do.
-use Rattle.std.specs.Prelude.{◌≡◌, ◌<◌, ◌≤◌, ◌⊎◌, ℕ, List, [], ◌∷◌, ◌++◌, if◌then◌else◌, ◌==◌, Result, Ok, Err, codes, decimal}
+use Rattle.std.specs.Prelude.{◌≡◌, ◌<◌, ◌≤◌, ◌+◌, ◌⊎◌, ℕ, List, [], ◌∷◌, ◌++◌, if◌then◌else◌, ◌==◌, Result, Ok, Err, codes, decimal}
 use Rattle.std.specs.List.{list_any}
 use Rattle.field_mod.specs.Moduli.{moduli}
 use Rattle.cube_sets.specs.Sets.{Members, dimensions_agree}
@@ -10,7 +10,7 @@ use Rattle.faults.specs.declared.fault.Fault.{Fault}
 use Rattle.faults.specs.declared.fault.Fault.TheVariants.{Dimension, Limit}
 use Rattle.faults.specs.declared.limit_name.LimitName.TheVariants.{Cells}
 use Rattle.loading.specs.Steps.{Then, Is}
-use Rattle.loading.specs.Readings.{Reading}
+use Rattle.loading.specs.Readings.{Reading, read_bytes}
 use Rattle.loading.specs.Sets.{IsSetIn}
 use Rattle.loading.specs.Maps.{IsMapIn}
 use Rattle.loading.specs.Jobs.{Job}
@@ -37,6 +37,10 @@ agreeing x_name y_name map x y =
 abbrev pub AreMapAndSetsIn : List ℕ → List ℕ → List ℕ → Reading → Result MapAndSets Fault → Type 0
 AreMapAndSetsIn f x y read =
     Then (IsMapIn f read) (λ map. Then (IsSetIn Full x read) (λ s. Then (IsSetIn Full y read) (λ t. Is (agreeing x y map s t))))
+
+-- the most bytes that are read of three files
+abbrev pub three_files : ℕ
+three_files = read_bytes + (read_bytes + read_bytes)
 
 -- ---- refusals
 
@@ -70,7 +74,7 @@ unfoldable pub values_job : ValuesJob → Job
 values_job job = record {
   Input = MapAndSets;
   names = job.map ∷ job.x ∷ job.y ∷ [];
-  most = 201326595;
+  most = three_files;
   gives = AreMapAndSetsIn job.map job.x job.y;
   refuses = RefusesInput (modulus_of job.modulus);
   answers = IsValuesText;

@@ -5,6 +5,6 @@ mod inputs;
 mod laws;
 mod values_job;
 
-pub use inputs::MapAndSets;
+pub use inputs::{MapAndSets, load_map_and_sets};
 pub use laws::values_jobs_have_one_judgement;
 pub use values_job::ValuesJob;
