@@ -1,15 +1,13 @@
 -- Two full cubes with as many factors have the same faces but for a move, so that a mask of faces tells of both alike
-use Rattle.std.proofs.Common.{◌≡◌, ◌≢◌, ◌↔◌, ℕ, zero, suc, ◌+◌, ◌*◌, ◌<◌, ◌≤◌, ◌⊎◌, inl, inr, refl, sym, ap, ◌∙◌, arith, ⊎_elim, List, [], ◌∷◌, length, Bool, true, false, cond, subst, map, Option, Some, None}
+use Rattle.std.proofs.Common.{◌≡◌, ◌≢◌, ◌↔◌, ℕ, ◌+◌, ◌*◌, refl, sym, ap, ◌∙◌, arith, ⊎_elim, List, [], ◌∷◌, length, Bool, true, false, cond, subst, map, Option, Some, None}
 use Rattle.std.specs.Prelude.{ℤ, ◌+ℤ◌, neg_ℤ, IsTrue}
-use Rattle.std.specs.List.{Contains, filter, list_all}
+use Rattle.std.specs.List.{filter, list_all}
 use Rattle.std.specs.Ordering.{nat_cmp}
 use Rattle.std.specs.BTreeMap.{BTreeMap, get, is_at, Updates}
-use Rattle.std.proofs.lemmas.Bool.{true≢false, cases_eq, cases_Bool, and_parts}
+use Rattle.std.proofs.lemmas.Bool.{true≢false, cases_eq}
 use Rattle.std.proofs.lemmas.Int.{ints}
-use Rattle.std.proofs.lemmas.List.{length-map}
 use Rattle.elem_cubes.specs.Cells.{Factor, point, interval, is_wide}
-use Rattle.elem_cubes.specs.Faces.{IsFace, closure_of}
-use Rattle.elem_cubes.specs.Laws.{cell_at}
+use Rattle.elem_cubes.specs.Faces.{closure_of}
 use Rattle.elem_cubes.proofs.FaceLemmas.{face_trans}
 use Rattle.elem_cubes.proofs.Members.{In-from, from-In}
 use Rattle.cube_sets.proofs.Spreads.{has_In, In_has}

@@ -1,10 +1,8 @@
-use Rattle.std.proofs.Common.{◌≡◌, ◌∙◌, ◌<◌, List, [], length, sym, subst, arith, true≢false, refl}
-use Rattle.std.specs.List.{Contains}
+use Rattle.std.proofs.Common.{◌∙◌, List, [], length, sym, subst, arith, true≢false}
 use Rattle.std.proofs.lemmas.Option.{get_or_from_slice_get}
 use Rattle.elem_cubes.specs.Cells.{Factor}
 use Rattle.elem_cubes.specs.Laws.{cell_at}
 use Rattle.cube_sets.proofs.Covering.{member_parts}
-use Rattle.excision.specs.Known.{AreKnown}
 use Rattle.excision.specs.Left.{is_gone, IsMovableInto}
 use Rattle.excision.proofs.Moved.{idle_next}
 use Rattle.excision.proofs.Remembering.{known_alike}
