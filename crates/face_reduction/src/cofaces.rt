@@ -6,10 +6,11 @@ ghost use Rattle.excision.specs.Left.{is_one_of};
 ghost use Rattle.excision.specs.Owners.{Names};
 ghost use Rattle.face_reduction.specs.Cofaces.{AreCofaces};
 
+use crate::front::Front;
 use algebraic_reduction::Log;
 use cell_complex::Numbered;
 use chains::Chain;
-use excision::{Owners, Waiting};
+use excision::Owners;
 use std::alloc::{AllocError, Global};
 
 // For the number of each cell those of its cofaces among the cells, from the boundaries of these.
@@ -52,7 +53,7 @@ fn add_coface<const P: u16>(
 // The generators that a boundary names wait.
 pub(crate) fn wake_faces<const P: u16>(
     boundary: &Chain<P>,
-    waiting: &mut Waiting,
+    waiting: &mut Front,
 ) -> Result<(), AllocError>
     ensures kept { OnOk result ((k : ℕ) → is_one_of waiting.old k ≡ true → is_one_of waiting.new k ≡ true) }
     ensures woken { OnOk result ((k : ℕ) → coefficient boundary.now k ≢ 0 → is_one_of waiting.new k ≡ true) }

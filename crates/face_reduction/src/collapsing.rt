@@ -7,16 +7,17 @@ ghost use Rattle.face_reduction.specs.Logs.{IsGrowthThenCollapse, IsCollapse, Ta
 
 use crate::cofaces::{cofaces_of, wake_faces};
 use crate::free_pairs::next_free;
+use crate::front::Front;
 use algebraic_reduction::Log;
 use cell_complex::Numbered;
 use elem_cubes::Cell;
-use excision::Waiting;
 use field_mod::Field;
 use std::alloc::{AllocError, Global};
 
 /// Further steps by free pairs, until no pair of the cells that are left is free. The first steps of the log take exactly
 /// the faces of some cubes, and the later ones take free pairs. A cell is looked at at first, and again after a pair was taken
-/// that had it as a facet. Where memory is wanting the log is consumed.
+/// that had it as a facet, before any other: so what comes to be free is taken before the next free face, borders of holes
+/// stay whole, and cycles that go round them are short. Where memory is wanting the log is consumed.
 pub fn collapse<const P: u16>(
     alloc: Global,
     field: Field<P>,
@@ -31,7 +32,7 @@ pub fn collapse<const P: u16>(
 {
     let mut log = log;
     let cofaces = cofaces_of(alloc, &log, cells)?;
-    let mut waiting = Waiting::below(alloc, cells.len())?;
+    let mut waiting = Front::below(alloc, cells.len())?;
     'pairs: while let Some(pair) = next_free(&log, cells, &cofaces, &mut waiting) {
         let _ = log.step_count();
         log = log.reduce_pair(field, pair.0, pair.1)?;

@@ -9,9 +9,10 @@ ghost use Rattle.excision.specs.Left.{is_left, is_one_of};
 ghost use Rattle.face_reduction.specs.Cofaces.{AreCofaces};
 ghost use Rattle.face_reduction.specs.Logs.{IsFreeNumber, IsFreeFace};
 
+use crate::front::Front;
 use algebraic_reduction::Log;
 use cell_complex::Numbered;
-use excision::{Owners, Waiting};
+use excision::Owners;
 
 // The number of the one cell that is left and has the cell of this number as a facet, where that is left.
 fn free_coface<const P: u16>(
@@ -55,7 +56,7 @@ pub(crate) fn next_free<const P: u16>(
     log: &Log<P>,
     cells: &Numbered,
     cofaces: &Owners,
-    waiting: &mut Waiting,
+    waiting: &mut Front,
 ) -> Option<(u32, u32)>
     requires complex { IsComplexOf P cells.now log.now.complex }
     requires count { length cofaces.now ≡ length cells.now }

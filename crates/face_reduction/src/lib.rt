@@ -4,6 +4,7 @@
 mod cofaces;
 mod collapsing;
 mod free_pairs;
+mod front;
 mod laws;
 
 pub use collapsing::{collapse, take_pairs};

@@ -195,7 +195,7 @@ const WITH_CYCLES_OR_COUNTS: [Row; 10] = [
     },
     Row {
         words: &["homcubes", "--cycles", "q"],
-        out: "H_0 = Z_2\nz_0_1 = 1 * [(1 1)(1 1)]\nH_1 = 0\nH_2 = 0\n",
+        out: "H_0 = Z_2\nz_0_1 = 1 * [(0 0)(0 0)]\nH_1 = 0\nH_2 = 0\n",
         ..DONE
     },
     Row {

@@ -1,0 +1,53 @@
+//! Numbers that wait for their turn, the one that came last in front.
+ghost use Rattle.std.specs.Prelude.{◌≡◌, ℕ, ◌<◌, ◌⊎◌, true, false, length, OnOk, IfOk, IfSome, IfNone};
+ghost use Rattle.excision.specs.Left.{is_one_of};
+
+use std::alloc::{AllocError, Global};
+use std::collections::VecDeque;
+use std::marker::Model;
+
+/// Numbers that wait for their turn, the one that came last in front. A number may stand more than
+/// once. They are seen as their list.
+#[derive(Drop)]
+pub(crate) struct Front {
+    numbers: VecDeque<u32>,
+}
+
+impl Model for Front {
+    ghost use Rattle.std.specs.Prelude.{ℕ, List};
+
+    ghost Value = { List ℕ };
+
+    ghost view = { λ w. w.numbers.items };
+}
+
+impl Front {
+    /// All numbers below a count wait, the least in front.
+    pub(crate) fn below(alloc: Global, count: u32) -> Result<Front, AllocError>
+        ensures { IfOk result (λ w. (n : ℕ) → n < count → is_one_of w n ≡ true) }
+    {
+        let mut numbers = VecDeque::with_capacity(alloc, count as usize)?;
+        for number in 0..count {
+            numbers.push_back(number)?;
+        }
+        Ok(Front { numbers })
+    }
+
+    /// One more number waits, before all others.
+    pub(crate) fn push(&mut self, number: u32) -> Result<(), AllocError>
+        ensures kept { OnOk result ((n : ℕ) → is_one_of self.old n ≡ true → is_one_of self.new n ≡ true) }
+        ensures added { OnOk result (is_one_of self.new number ≡ true) }
+    {
+        self.numbers.push_front(number)?;
+        Ok(())
+    }
+
+    /// The number in front, which then does not wait unless it stands a further time.
+    pub(crate) fn pop(&mut self) -> Option<u32>
+        ensures kept { IfSome result (λ i. (n : ℕ) → is_one_of self.old n ≡ true → (n ≡ i) ⊎ (is_one_of self.new n ≡ true)) }
+        ensures fewer { IfSome result (λ i. length self.new < length self.old) }
+        ensures none { IfNone result ((n : ℕ) → is_one_of self.old n ≡ false) }
+    {
+        self.numbers.pop_front()
+    }
+}
