@@ -16,8 +16,10 @@ use std::alloc::{AllocError, Global};
 
 /// Further steps by free pairs, until no pair of the cells that are left is free. The first steps of the log take exactly
 /// the faces of some cubes, and the later ones take free pairs. A cell is looked at at first, and again after a pair was taken
-/// that had it as a facet, before any other: so what comes to be free is taken before the next free face, borders of holes
-/// stay whole, and cycles that go round them are short. Where memory is wanting the log is consumed.
+/// that had it as a facet. Where memory is wanting the log is consumed.
+///
+/// In the plane what comes to be free is taken before the next free face: so borders of holes stay whole, and cycles that go
+/// round them are short. In higher dimensions that leaves far more cells, and what comes to be free waits behind the others.
 pub fn collapse<const P: u16>(
     alloc: Global,
     field: Field<P>,
@@ -32,7 +34,7 @@ pub fn collapse<const P: u16>(
 {
     let mut log = log;
     let cofaces = cofaces_of(alloc, &log, cells)?;
-    let mut waiting = Front::below(alloc, cells.len())?;
+    let mut waiting = Front::below(alloc, cells.len(), lie_in_plane(cells))?;
     'pairs: while let Some(pair) = next_free(&log, cells, &cofaces, &mut waiting) {
         let _ = log.step_count();
         log = log.reduce_pair(field, pair.0, pair.1)?;
@@ -40,6 +42,11 @@ pub fn collapse<const P: u16>(
         wake_faces(log.complex().boundary(pair.1), &mut waiting)?;
     }
     Ok(log)
+}
+
+// Whether the cells are those of a line or a plane.
+fn lie_in_plane(cells: &Numbered) -> bool {
+    cells.len() > 0 && cells.cell(0).embedding() <= 2
 }
 
 /// One more step for each of these pairs, each of which is free at its turn. Where memory is wanting the log is consumed.

@@ -1,4 +1,4 @@
-//! Numbers that wait for their turn, the one that came last in front.
+//! Numbers that wait for their turn, in one of two orders.
 ghost use Rattle.std.specs.Prelude.{◌≡◌, ℕ, ◌<◌, ◌⊎◌, true, false, length, OnOk, IfOk, IfSome, IfNone};
 ghost use Rattle.excision.specs.Left.{is_one_of};
 
@@ -6,11 +6,12 @@ use std::alloc::{AllocError, Global};
 use std::collections::VecDeque;
 use std::marker::Model;
 
-/// Numbers that wait for their turn, the one that came last in front. A number may stand more than
-/// once. They are seen as their list.
+/// Numbers that wait for their turn: one more comes in front of all others, or behind them. A number
+/// may stand more than once. They are seen as their list.
 #[derive(Drop)]
 pub(crate) struct Front {
     numbers: VecDeque<u32>,
+    newest_first: bool,
 }
 
 impl Model for Front {
@@ -23,22 +24,29 @@ impl Model for Front {
 
 impl Front {
     /// All numbers below a count wait, the least in front.
-    pub(crate) fn below(alloc: Global, count: u32) -> Result<Front, AllocError>
+    pub(crate) fn below(alloc: Global, count: u32, newest_first: bool) -> Result<Front, AllocError>
         ensures { IfOk result (λ w. (n : ℕ) → n < count → is_one_of w n ≡ true) }
     {
         let mut numbers = VecDeque::with_capacity(alloc, count as usize)?;
         for number in 0..count {
             numbers.push_back(number)?;
         }
-        Ok(Front { numbers })
+        Ok(Front {
+            numbers,
+            newest_first,
+        })
     }
 
-    /// One more number waits, before all others.
+    /// One more number waits, before all others or behind them.
     pub(crate) fn push(&mut self, number: u32) -> Result<(), AllocError>
         ensures kept { OnOk result ((n : ℕ) → is_one_of self.old n ≡ true → is_one_of self.new n ≡ true) }
         ensures added { OnOk result (is_one_of self.new number ≡ true) }
     {
-        self.numbers.push_front(number)?;
+        if self.newest_first {
+            self.numbers.push_front(number)?;
+        } else {
+            self.numbers.push_back(number)?;
+        }
         Ok(())
     }
 

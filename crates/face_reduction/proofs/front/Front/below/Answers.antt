@@ -1,4 +1,4 @@
-use Rattle.std.proofs.Common.{◌≡◌, ℕ, ◌<◌, ◌+◌, arith, ⊎_elim, subst, true}
+use Rattle.std.proofs.Common.{◌≡◌, ℕ, arith, ⊎_elim, subst, true}
 use Rattle.std.proofs.lemmas.Bool.{cases_lt}
 use Rattle.excision.specs.Left.{is_one_of}
 use Rattle.excision.proofs.Marking.{waits_more, waits_last}
