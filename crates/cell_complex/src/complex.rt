@@ -54,7 +54,8 @@ fn boundaries_of<const P: u16>(
     field: Field<P>,
     cells: &Numbered,
 ) -> Result<Vec<Chain<P>>, AllocError>
-    ensures { IfOk result (λ boundaries. AreBoundaries P cells.now boundaries.items × (length boundaries.items ≡ length cells.now)) }
+    ensures { IfOk result (λ boundaries. AreBoundaries P cells.now boundaries.items
+        × (length boundaries.items ≡ length cells.now)) }
 {
     let mut boundaries = Vec::with_capacity(alloc, cells.len() as usize)?;
     let mut terms = Vec::new(alloc);
@@ -74,8 +75,9 @@ fn end_of(cell: &Cell, facet: &Cell) -> usize
     2 * axis + usize::from(cell.lower() == facet.lower())
 }
 
-// The boundary of a cell, of which only terms at cells of the list count. The terms that `terms` holds are not kept. For each
-// end of an axis `near` has the number of the facet that was found there last: cells in order have such facets in order.
+// The boundary of a cell, of which only terms at cells of the list count. The terms that `terms`
+// holds are not kept. For each end of an axis `near` has the number of the facet that was found
+// there last: cells in order have such facets in order.
 fn boundary_among<const P: u16>(
     alloc: Global,
     field: Field<P>,

@@ -8,9 +8,10 @@ use smallvec::SmallVec;
 use std::alloc::{AllocError, Global};
 use std::marker::Model;
 
-/// A chain over the numbers modulo `P`: a finite map from generators to coefficients from 1 to `P - 1`. It is seen as
-/// the list of its terms by ascending generator, so that equal chains are equal lists. Each call that reads it says that
-/// the list is in this normal form. A chain of at most four terms makes no allocation.
+/// A chain over the numbers modulo `P`: a finite map from generators to coefficients from 1 to
+/// `P - 1`. It is seen as the list of its terms by ascending generator, so that equal chains are
+/// equal lists. Each call that reads it says that the list is in this normal form. A chain of at
+/// most four terms makes no allocation.
 #[derive(Drop)]
 pub struct Chain<const P: u16> {
     terms: Terms,
@@ -64,7 +65,8 @@ impl<const P: u16> Chain<P> {
         Ok(Chain { terms })
     }
 
-    /// Adds `scale` times the other chain, for a number `scale` below `P`. Where memory is wanting the chain stays as it was.
+    /// Adds `scale` times the other chain, for a number `scale` below `P`. Where memory is wanting
+    /// the chain stays as it was.
     pub fn add_scaled(
         &mut self,
         field: Field<P>,
@@ -73,7 +75,8 @@ impl<const P: u16> Chain<P> {
     ) -> Result<(), AllocError>
         requires { scale < P }
         ensures normal { IsNormal P self.new }
-        ensures sum { OnOk result ((g : ℕ) → coefficient self.new g ≡ (coefficient self.old g + scale * coefficient other.now g) % P) }
+        ensures sum { OnOk result ((g : ℕ) → coefficient self.new g
+            ≡ (coefficient self.old g + scale * coefficient other.now g) % P) }
         ensures err { OnErr result (self.new ≡ self.old) }
     {
         let alloc = *self.terms.allocator();

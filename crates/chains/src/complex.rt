@@ -58,7 +58,8 @@ impl<const P: u16> Complex<P> {
     ) -> Result<Self, ComplexFault>
         requires sizes { vec_len degrees ≡ vec_len boundaries }
         requires short { vec_len boundaries < 2 ^ 32 }
-        ensures ok { IfOk result (λ c. (c.degrees ≡ degrees.items) × (c.boundaries ≡ boundaries.entry.items) × IsComplex P c) }
+        ensures ok { IfOk result (λ c. (c.degrees ≡ degrees.items)
+            × (c.boundaries ≡ boundaries.entry.items) × IsComplex P c) }
         ensures err { IfErr result (IsRefusal P degrees.items boundaries.entry.items) }
     {
         if let Some((generator, at)) = first_bad_degree(&degrees, &boundaries) {
@@ -121,7 +122,8 @@ impl<const P: u16> Complex<P> {
         field: Field<P>,
         chain: &Chain<P>,
     ) -> Result<Chain<P>, AllocError>
-        ensures { IfOk result (λ b. (g : ℕ) → coefficient b g ≡ boundary self.now.boundaries (coefficient chain.now) g % P) }
+        ensures { IfOk result (λ b. (g : ℕ) → coefficient b g
+            ≡ boundary self.now.boundaries (coefficient chain.now) g % P) }
     {
         let mut products = SmallVec::new(alloc);
         boundary_in(alloc, field, &self.boundaries, chain, &mut products)
@@ -145,7 +147,8 @@ fn boundary_in<const P: u16>(
     chain: &Chain<P>,
     products: &mut Terms,
 ) -> Result<Chain<P>, AllocError>
-    ensures { IfOk result (λ b. (g : ℕ) → coefficient b g ≡ boundary boundaries.now (coefficient chain.now) g % P) }
+    ensures { IfOk result (λ b. (g : ℕ) → coefficient b g
+        ≡ boundary boundaries.now (coefficient chain.now) g % P) }
 {
     products.clear();
     for (generator, number) in chain.terms() {
@@ -165,7 +168,8 @@ fn push_scaled<const P: u16>(
     products: &mut Terms,
 ) -> Result<(), AllocError>
     requires { scale < P }
-    ensures { OnOk result ((g : ℕ) → Same P (coefficient products.new.items g) (coefficient products.old.items g + scale * coefficient chain.now g)) }
+    ensures { OnOk result ((g : ℕ) → Same P (coefficient products.new.items g)
+        (coefficient products.old.items g + scale * coefficient chain.now g)) }
 {
     for (generator, number) in chain.terms() {
         products.push((*generator, field.mul(scale, *number)))?;
@@ -195,7 +199,8 @@ fn first_bad_degree<const P: u16>(degrees: &[u8], boundaries: &[Chain<P>]) -> Op
     requires short { length boundaries.now < 2 ^ 32 }
     ensures some { IfSome result (λ e. IsFirst (IsBadDegree degrees.now boundaries.now) e.0 e.1) }
     ensures none { IfNone result ((h g : ℕ) → ¬ IsBadDegree degrees.now boundaries.now h g) }
-    ensures normal { IfNone result ((h : ℕ) → h < length boundaries.now → IsNormal P (slice_index_or boundaries.now h [])) }
+    ensures normal { IfNone result ((h : ℕ) → h < length boundaries.now
+        → IsNormal P (slice_index_or boundaries.now h [])) }
 {
     for place in 0..boundaries.len() {
         if let Some(at) = misplaced(degrees, place, &boundaries[place]) {
@@ -225,8 +230,10 @@ fn first_not_zero<const P: u16>(
 ) -> Result<Option<(u32, u32, u16)>, AllocError>
     requires { length boundaries.now < 2 ^ 32 }
     ensures some { IfOk result (λ o. IfSome o (λ e. IsFirst (IsNotZero P boundaries.now) e.0 e.1)) }
-    ensures number { IfOk result (λ o. IfSome o (λ e. e.2 ≡ boundary boundaries.now (incidence boundaries.now e.0) e.1 % P)) }
-    ensures none { IfOk result (λ o. IfNone o ((h g : ℕ) → h < length boundaries.now → Same P (boundary boundaries.now (incidence boundaries.now h) g) 0)) }
+    ensures number { IfOk result (λ o. IfSome o (λ e.
+        e.2 ≡ boundary boundaries.now (incidence boundaries.now e.0) e.1 % P)) }
+    ensures none { IfOk result (λ o. IfNone o ((h g : ℕ) → h < length boundaries.now
+        → Same P (boundary boundaries.now (incidence boundaries.now h) g) 0)) }
 {
     let mut products = SmallVec::new(alloc);
     for place in 0..boundaries.len() {

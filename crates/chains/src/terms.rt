@@ -32,7 +32,8 @@ pub fn merge<const P: u16>(
     requires left { IsNormal P left.now }
     requires right { IsNormal P right.now }
     ensures normal { IfOk result (λ v. IsNormal P v.items) }
-    ensures sum { IfOk result (λ v. (g : ℕ) → coefficient v.items g ≡ (coefficient left.now g + scale * coefficient right.now g) % P) }
+    ensures sum { IfOk result (λ v. (g : ℕ) → coefficient v.items g
+        ≡ (coefficient left.now g + scale * coefficient right.now g) % P) }
 {
     let mut merged = SmallVec::new(alloc);
     let mut i = 0;

@@ -58,8 +58,8 @@ fn entries(alloc: Global, cubes: &[Cell], pairs: &[Pair]) -> Result<Vec<Entry>, 
 }
 
 impl CubeMap {
-    /// The map that names these cubes, and in whose values these pairs are; each may stand more than once. The dimension is 0 for no
-    /// cubes alone.
+    /// The map that names these cubes, and in whose values these pairs are; each may stand more
+    /// than once. The dimension is 0 for no cubes alone.
     pub fn of_parts(
         alloc: Global,
         dimension: u8,
@@ -76,7 +76,8 @@ impl CubeMap {
         ensures map { IfOk result IsCubeMap }
         ensures dimension { IfOk result (λ m. m.dimension ≡ dimension) }
         ensures names { IfOk result (λ m. (q : List Factor) → names m.named q ≡ has cell_cmp cubes.items q) }
-        ensures pairs { IfOk result (λ m. (q v : List Factor) → has cell_cmp (value_of m.named q) v ≡ is_pair pairs.items q v) }
+        ensures pairs { IfOk result (λ m. (q v : List Factor) →
+            has cell_cmp (value_of m.named q) v ≡ is_pair pairs.items q v) }
     {
         let mut cubes = cubes;
         let mut pairs = pairs;

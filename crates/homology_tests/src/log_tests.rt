@@ -242,8 +242,9 @@ fn transposes<const P: u16>(
     Ok(same)
 }
 
-/// Reduces all of a complex, and tells whether so many generators of each degree are left without a boundary, whether each is
-/// the projection of its inclusion, and whether the projection and the transposed one agree.
+/// Reduces all of a complex, and tells whether so many generators of each degree are left without a
+/// boundary, whether each is the projection of its inclusion, and whether the projection and the
+/// transposed one agree.
 fn reduces_to<const P: u16>(
     alloc: Global,
     complex: Complex<P>,

@@ -83,7 +83,8 @@ fn outside(piece: Piece) -> Turn
 
 // One of two marks that are wanted, and what each does.
 fn wanting(one: u8, first: Turn, other: u8, second: Turn, piece: Piece) -> Turn
-    ensures { (vs : List (List ℤ)) (s t : Step) → StepsAs vs first s → StepsAs vs second t → StepsAs vs result (for_marks one s other t piece) }
+    ensures { (vs : List (List ℤ)) (s t : Step) → StepsAs vs first s → StepsAs vs second t
+        → StepsAs vs result (for_marks one s other t piece) }
 {
     match piece {
         Piece::Mark(b) => {
