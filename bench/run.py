@@ -9,12 +9,15 @@
     bench/run.py --markdown                  the rows of docs/PERFORMANCE.md
 
 Each line has the number of cells (generators of a chain file, members of a set that is printed), the best wall time of three
-runs and the peak memory, in all and for each cell. Answers are compared with what is known of the input. Nothing but Python
-is needed; the gate does not run this.
+runs and the peak memory, in all and for each cell, and for sets how many times longer the run is than that of floor.c, which
+only parses the files and counts their cubes: that can be compared between machines. Answers are compared with what is known
+of the input. Nothing but Python is needed, and `cc` for the last column; the gate does not run this.
 """
 import argparse
 import os
 import random
+import shutil
+import subprocess
 import sys
 import tempfile
 import time
@@ -38,18 +41,58 @@ def squares_with_holes(n):
     return set_text((x, y) for x in side for y in side if x % 2 == 0 or y % 2 == 0), 15 * n * n + 24 * n + 9
 
 
+def dust(n):
+    """Squares that do not touch each other."""
+    return set_text((2 * x, 2 * y) for x in range(n) for y in range(n)), 9 * n * n
+
+
+def curve(n):
+    """A band of squares that goes to and fro n times: rows of 2n squares, each joined to the next at one end."""
+    rows = [(x, 2 * y) for y in range(n) for x in range(2 * n)]
+    joints = [(0 if y % 2 else 2 * n - 1, 2 * y + 1) for y in range(n - 1)]
+    # A row has 3 (4n + 1) cells; a joint adds itself and two edges.
+    return set_text(rows + joints), 3 * n * (4 * n + 1) + 3 * (n - 1)
+
+
+def sponge(level):
+    """Menger's sponge: of the 27 parts of a cube those that are in the middle along at most one axis, again and again."""
+    parts = [part for part in product(range(3), repeat=3) if part.count(1) < 2]
+    cubes = [(0, 0, 0)]
+    for _ in range(level):
+        cubes = [tuple(3 * x + d for x, d in zip(cube, part)) for cube in cubes for part in parts]
+    side = 2 * 3**level + 1
+    corners = [(2 * x * side + 2 * y) * side + 2 * z for x, y, z in cubes]
+    steps = [(a * side + b) * side + c for a, b, c in product(range(3), repeat=3)]
+    return set_text(cubes), len({corner + step for corner in corners for step in steps})
+
+
 def border(n):
     """The outermost squares of the board with holes."""
     side = range(2 * n + 1)
     return set_text((x, y) for x in side for y in side if x in (0, 2 * n) or y in (0, 2 * n)), None
 
 
-def random_cubes(dimension, side, share, seed):
+def shuffled(cubes):
+    random.Random(5).shuffle(cubes)
+    return cubes
+
+
+# The same set told in another way, or moved.
+CHANGES = {
+    "plain": lambda cubes: cubes,
+    "mirrored": lambda cubes: [(-cube[0], *cube[1:]) for cube in reversed(cubes)],
+    "transposed": lambda cubes: [cube[::-1] for cube in cubes],
+    "shuffled": shuffled,
+    "shifted": lambda cubes: [tuple(x + 123_456_789 for x in cube) for cube in cubes],
+}
+
+
+def random_cubes(dimension, side, share, seed, change="plain"):
     """Each cube of a block is taken with this share. A cell is, along each axis, an end or the interval between."""
     chance = random.Random(seed)
     cubes = [cube for cube in product(range(side), repeat=dimension) if chance.random() < share]
     cells = {cell for cube in cubes for cell in product(*((2 * x, 2 * x + 1, 2 * x + 2) for x in cube))}
-    return set_text(cubes), len(cells)
+    return set_text(CHANGES[change](cubes)), len(cells)
 
 
 def board(side, first=0):
@@ -86,18 +129,36 @@ def holes(n, options="", name="squares with holes"):
     return Case(f"{name}, N = {n}", f"homcubes X {options}", {"X": (squares_with_holes, n)}, dimensions=[1, n * n, 0])
 
 
+def sets(quick, modulus):
+    """What the times of a cell are aimed at."""
+    options = f"--mod {modulus}"
+    sizes = (40, 100) if quick else (40, 100, 300, 527)
+    yield from (holes(n, options, f"modulo {modulus}: holes") for n in sizes)
+    yield Case(f"modulo {modulus}: random squares, 300 by 300, 3/5", f"homcubes X {options}",
+               {"X": (random_cubes, 2, 300, 0.6, 1)})
+    yield Case(f"modulo {modulus}: a curve", f"homcubes X {options}", {"X": (curve, 100 if quick else 300)},
+               dimensions=[1, 0, 0])
+    pieces = 100 if quick else 400
+    yield Case(f"modulo {modulus}: dust", f"homcubes X {options}", {"X": (dust, pieces)}, dimensions=[pieces**2, 0, 0])
+    yield Case(f"modulo {modulus}: random cubes, 30 by 30 by 30, 1/2", f"homcubes X {options}",
+               {"X": (random_cubes, 3, 30, 0.5, 2)})
+    yield Case(f"modulo {modulus}: a sponge", f"homcubes X {options}", {"X": (sponge, 2 if quick else 4)})
+    yield Case(f"modulo {modulus}: dimension 4, side 10, 2/5", f"homcubes X {options}", {"X": (random_cubes, 4, 10, 0.4, 4)})
+    n = 100 if quick else 300
+    # The border goes once round all holes, so relative to it one class of degree 1 is gone, and the piece.
+    yield Case(f"modulo {modulus}: a pair: holes, N = {n}, and border", f"homcubes X A {options}",
+               {"X": (squares_with_holes, n), "A": (border, n)}, dimensions=[0, n * n - 1, 0])
+
+
 def cases(quick):
     size = 8 if quick else 1
     side, half, full = 1000 // size, 724 // size, 1024 // size
     points = 2**19 // size**2
-    yield from (holes(n) for n in (40, 100, 300, 527) if n < 200 or not quick)
-    yield Case("random squares, 300 by 300, 3/5", "homcubes X", {"X": (random_cubes, 2, 300, 0.6, 1)})
-    yield Case("random cubes, 30 by 30 by 30, 1/2", "homcubes X", {"X": (random_cubes, 3, 30, 0.5, 2)})
-    yield holes(100, "--mod 47", "modulo 47: holes")
-    yield holes(100, "--cycles", "with cycles: holes")
-    # The border goes once round all holes, so relative to it one class of degree 1 is gone, and the piece.
-    yield Case("a pair: holes, N = 100, and border", "homcubes X A", {"X": (squares_with_holes, 100), "A": (border, 100)},
-               dimensions=[0, 100 * 100 - 1, 0])
+    yield from sets(quick, 3)
+    yield from sets(quick, 47)
+    yield from (holes(n, "--cycles", "with cycles: holes") for n in (100, 527) if n < 200 or not quick)
+    for change in CHANGES:
+        yield Case(f"random squares, {change}", "homcubes X", {"X": (random_cubes, 2, 300, 0.6, 1, change)})
     yield Case("chain file: a circle", "homchain C", {"C": (circle, points)}, dimensions=[1, 1])
     yield Case("chain file: a circle, cycles", "homchain C --mod 47 --cycles", {"C": (circle, points)}, dimensions=[1, 1])
     yield Case("chain file: a long boundary", "homchain C --mod 47", {"C": (long_boundary, 2 * points - 2, 3)},
@@ -146,12 +207,30 @@ def write_input(path, maker: Callable, *arguments):
     return cells
 
 
-PLAIN = "{:36} {:>9} {:>8.2f} s {:>7.0f} ns {:>7.0f} MiB {:>6.0f} B"
-MARKDOWN = "| {} | {:,} | {:.2f} s | {:.0f} ns | {:.0f} MiB | {:.0f} B |"
+PLAIN = "{:48} {:>9} {:>8.2f} s {:>7.0f} ns {:>7.0f} MiB {:>6.0f} B {:>6}"
+MARKDOWN = "| {} | {:,} | {:.2f} s | {:.0f} ns | {:.0f} MiB | {:.0f} B | {} |"
 
 
-def measure(program, case, makers, folder):
-    """The name, the number of cells, the time, that of a cell in nanoseconds, the memory in MiB and that of a cell in bytes."""
+def built_floor(folder):
+    """The plain reader, where there is a C compiler."""
+    compiler, floor = shutil.which("cc"), folder / "floor"
+    if compiler is None:
+        return None
+    subprocess.run([compiler, "-O2", "-o", floor, ROOT / "bench" / "floor.c"], check=True)
+    return floor
+
+
+def times_floor(floor, case, paths, taken, folder):
+    """How many times longer than the plain reader, of a file of full cubes."""
+    if floor is None or not case.words.startswith("homcubes"):
+        return "-"
+    least = min(timed(floor, [str(path) for path in paths.values()], folder)[0] for _ in range(3))
+    return f"{taken / least:.1f}"
+
+
+def measure(program, floor, case, makers, folder):
+    """The name, the number of cells, the time, that of a cell in nanoseconds, the memory in MiB and that of a cell in bytes,
+    and the times of the plain reader."""
     paths = {operand: folder / operand for operand in case.inputs}
     counts = [makers.submit(write_input, paths[operand], *made).result() for operand, made in case.inputs.items()]
     words = [str(paths.get(word, word)) for word in case.words.split()]
@@ -159,7 +238,8 @@ def measure(program, case, makers, folder):
     compare(case, runs[0][2])
     cells = case.members or counts[0]
     taken, memory = min(run[0] for run in runs), min(run[1] for run in runs)
-    return case.name, cells, taken, taken / cells * 1e9, memory / 2**20, memory / cells
+    ratio = times_floor(floor, case, paths, taken, folder)
+    return case.name, cells, taken, taken / cells * 1e9, memory / 2**20, memory / cells, ratio
 
 
 def main():
@@ -172,12 +252,13 @@ def main():
     if not options.program.exists():
         sys.exit("no program yet: run `bin/chomp homcubes examples/ring.txt` first")
     if not options.markdown:
-        print(f"{'input':36} {'cells':>9} {'time':>10} {'a cell':>10} {'memory':>11} {'a cell':>8}")
+        print(f"{'input':48} {'cells':>9} {'time':>10} {'a cell':>10} {'memory':>11} {'a cell':>8} {'floor':>6}")
     # Inputs are made in a process of their own: the peak memory of a child is told as at least that of its parent.
     with tempfile.TemporaryDirectory() as folder, ProcessPoolExecutor(max_workers=1) as makers:
+        floor = built_floor(Path(folder))
         for case in cases(options.quick):
             if options.only in case.name:
-                row = measure(options.program.resolve(), case, makers, Path(folder))
+                row = measure(options.program.resolve(), floor, case, makers, Path(folder))
                 print((MARKDOWN if options.markdown else PLAIN).format(*row), flush=True)
 
 
