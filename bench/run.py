@@ -8,7 +8,7 @@
     bench/run.py --program FILE              another program than that of this repository
     bench/run.py --markdown                  the rows of docs/PERFORMANCE.md
 
-Each line has the number of cells (generators of a chain file, members of a set that is printed), the best wall time of three
+Each line has the number of cells (generators of a chain file, members of a set that is printed), the least processor time of three
 runs and the peak memory, in all and for each cell, and for sets how many times longer the run is than that of floor.c, which
 only parses the files and counts their cubes: that can be compared between machines. Answers are compared with what is known
 of the input. Nothing but Python is needed, and `cc` for the last column; the gate does not run this.
@@ -20,7 +20,6 @@ import shutil
 import subprocess
 import sys
 import tempfile
-import time
 from concurrent.futures import ProcessPoolExecutor
 from itertools import product
 from pathlib import Path
@@ -175,17 +174,15 @@ def cases(quick):
 # ---- runs
 
 def timed(program, words, folder):
-    """Wall time in seconds, peak memory in bytes, and what was printed."""
+    """Processor time in seconds, peak memory in bytes, and what was printed. The program has one thread."""
     out = folder / "out"
     with open(out, "wb") as sink:
-        begin = time.perf_counter()
         child = os.posix_spawn(program, [str(program), *words], os.environ,
                                file_actions=[(os.POSIX_SPAWN_DUP2, sink.fileno(), 1)])
         _, status, usage = os.wait4(child, 0)
-        taken = time.perf_counter() - begin
     if status != 0:
         sys.exit(f"{' '.join(words)}: ended with wait status {status}")
-    return taken, usage.ru_maxrss * 1024, out.read_text()
+    return usage.ru_utime + usage.ru_stime, usage.ru_maxrss * 1024, out.read_text()
 
 
 def dimensions(text):
@@ -225,7 +222,7 @@ def times_floor(floor, case, paths, taken, folder):
     if floor is None or not case.words.startswith("homcubes"):
         return "-"
     least = min(timed(floor, [str(path) for path in paths.values()], folder)[0] for _ in range(3))
-    return f"{taken / least:.1f}"
+    return f"{taken / max(least, 0.001):.1f}"
 
 
 def measure(program, floor, case, makers, folder):
