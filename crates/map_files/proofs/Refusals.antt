@@ -10,7 +10,7 @@ use Rattle.grid_files.specs.declared.piece.Piece.{Piece}
 use Rattle.grid_files.specs.declared.piece.Piece.TheVariants.{Number, Mark, Arrow, SkippedLine, DimensionNumber}
 use Rattle.map_files.specs.Items.{Item, single, listed, dimension_line, skipped_line, Open, nothing, in_left, before_arrow, before_value, in_single, in_list, in_listed, behind_word, spelling, fits, beginning, fits_open}
 use Rattle.map_files.specs.MapFile.{Splits, StopsAt, BeginsBroken, BeginsRefused, Refuses, no_namings}
-use Rattle.map_files.specs.Reading.{Step, goes, closes, step}
+use Rattle.map_files.specs.Reading.{goes, closes, step}
 use Rattle.map_files.specs.Refusals.{HaveValue, BeginItem, PieceRefused, ItemRefused, LeftOpen, RefusalsAreFirst}
 use Rattle.map_files.proofs.Reading.{Says, says}
 use Rattle.map_files.proofs.Deciding.{mark_step, value_read, refusal_read}
