@@ -3,7 +3,7 @@
 use Rattle.std.specs.Prelude.{◌≡◌, ℕ, ◌≤◌, List, [], ◌∷◌, length, map, Bool, true, false, ◌||◌, ◌&&◌, if◌then◌else◌}
 use Rattle.std.specs.List.{list_all, flat_map, AllByRecursion}
 use Rattle.std.specs.List.Sorted.{IsStrictlySortedBy}
-use Rattle.elem_cubes.specs.declared.range.TheConstants.{MAX_EMBEDDING}
+use Rattle.elem_cubes.specs.Range.{most_factors}
 use Rattle.elem_cubes.specs.Cells.{Factor, is_wide, same_cell}
 use Rattle.elem_cubes.specs.Order.{cell_cmp}
 use Rattle.cube_sets.specs.Sets.{is_member}
@@ -43,13 +43,21 @@ is_full_member dimension q = is_member dimension q && list_all is_wide q
 abbrev pub is_naming : ℕ → Naming → Bool
 is_naming dimension e = is_full_member dimension e.cube && list_all (is_full_member dimension) e.value
 
+-- the most named cubes of a map, and the most pairs of a cube and a cube of its value
+abbrev pub most_pairs : ℕ
+most_pairs = 1048576
+
+-- the program's limit is that number
+abbrev pub LimitIsOfTheFormats : Type 0
+LimitIsOfTheFormats = MAP_PAIRS ≡ most_pairs
+
 -- named cubes and value cubes are full, of the dimension of the map and in the range of files; named cubes are distinct and in
 -- order, and so are those of each value; there are not too many of either
 pub record IsCubeMap (m : Mapping) : Type 0 where
-  pub axes : m.dimension ≤ MAX_EMBEDDING
+  pub axes : m.dimension ≤ most_factors
   pub unknown : m.dimension ≡ 0 → m.named ≡ []
   pub alike : list_all (is_naming m.dimension) m.named ≡ true
   pub sorted : IsStrictlySortedBy cell_cmp (cubes_of m.named)
   pub sorted_values : AllByRecursion (λ (e : Naming). IsStrictlySortedBy cell_cmp e.value) m.named
-  pub few : length m.named ≤ MAP_PAIRS
-  pub few_pairs : length (pairs_of m.named) ≤ MAP_PAIRS
+  pub few : length m.named ≤ most_pairs
+  pub few_pairs : length (pairs_of m.named) ≤ most_pairs

@@ -88,7 +88,7 @@ piece_runs m start o o' p e s here more is =
 number_step : (more : List ℤ → Open) (close : Step) (xs : List ℤ) (z : ℤ) → is_full_end z ≡ true → in_corner more close xs (Number z) ≡ goes (more (xs ++ z ∷ []))
 number_step more close xs z h = rw h refl
 
-mark_step : (more : List ℤ → Open) (close : Step) (xs : List ℤ) → not (is_empty xs) ≡ true → in_corner more close xs (Mark 41) ≡ close
+pub mark_step : (more : List ℤ → Open) (close : Step) (xs : List ℤ) → not (is_empty xs) ≡ true → in_corner more close xs (Mark 41) ≡ close
 mark_step more close xs h = rw h refl
 
 numbers_run : (m : Mapping) (start : ℕ) (more : List ℤ → Open) (close : List ℤ → Step)

@@ -1,6 +1,7 @@
 pub mod Reading
 pub mod Deciding
 pub mod Outcomes
+pub mod Refusals
 pub mod Elements
 pub mod Keeping
 pub mod Openings

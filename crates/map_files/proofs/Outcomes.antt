@@ -21,7 +21,7 @@ same_value r v w h k = cc
 same_refusal : (r : Outcome) (e f : ℕ × TextCause) → r ≡ Err e → r ≡ Err f → e ≡ f
 same_refusal r e f h k = cc
 
-no_outcome : (r : Outcome) (v : Mapping) (e : ℕ × TextCause) → r ≡ Ok v → r ≡ Err e → ⊥
+pub no_outcome : (r : Outcome) (v : Mapping) (e : ℕ × TextCause) → r ≡ Ok v → r ≡ Err e → ⊥
 no_outcome r v e h k = cc
 
 pub one_outcome : TextsHaveOneOutcome

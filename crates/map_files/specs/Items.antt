@@ -1,11 +1,10 @@
 -- The items of a map file: their texts, their beginnings, and what a map becomes by them.
 use Rattle.std.specs.Prelude.{ℕ, ℤ, List, [], ◌∷◌, ◌++◌, length, map, Bool, true, ◌==◌, ◌&&◌, ◌||◌, nat_lt, if◌then◌else◌, Option, None, Some}
 use Rattle.std.specs.List.{list_all, list_any, flat_map}
-use Rattle.elem_cubes.specs.declared.range.TheConstants.{MAX_EMBEDDING}
+use Rattle.elem_cubes.specs.Range.{most_factors}
 use Rattle.elem_cubes.specs.Cells.{full_cell}
 use Rattle.cube_sets.specs.Sets.{Members, dimensions_agree}
-use Rattle.cube_maps.specs.CubeMaps.{Mapping, pairs_of}
-use Rattle.cube_maps.specs.declared.parts.TheConstants.{MAP_PAIRS}
+use Rattle.cube_maps.specs.CubeMaps.{Mapping, pairs_of, most_pairs}
 use Rattle.grid_files.specs.Items.{opened, closed, is_full_end, fits_corner, refused_in_corner, dimension_cause, natural}
 use Rattle.grid_files.specs.declared.fault.TextCause.{TextCause}
 use Rattle.grid_files.specs.declared.fault.TextCause.TheVariants.{BadByte, BadNumber, MixedDimension, DimensionTooLarge, TooMany}
@@ -104,12 +103,12 @@ refused behind_word p = Some BadNumber
 
 -- Why a map with one more element is none: it has too many named cubes, or too many pairs of a cube and a cube of its value.
 abbrev pub has_too_many : Mapping → Bool
-has_too_many m = nat_lt MAP_PAIRS (length m.named) || nat_lt MAP_PAIRS (length (pairs_of m.named))
+has_too_many m = nat_lt most_pairs (length m.named) || nat_lt most_pairs (length (pairs_of m.named))
 
 -- The lengths of an element's corners: one has too many numbers, or one has not the dimension that is known, or not that of the
 -- left one.
 abbrev pub is_long : List ℤ → Bool
-is_long xs = nat_lt MAX_EMBEDDING (length xs)
+is_long xs = nat_lt most_factors (length xs)
 
 abbrev pub are_alike : Mapping → List ℤ → List (List ℤ) → Bool
 are_alike m q vs = dimensions_agree m.dimension (length q) && list_all (λ v. length v == length q) vs

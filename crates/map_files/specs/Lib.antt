@@ -2,6 +2,7 @@ pub mod Elements
 pub mod Items
 pub mod MapFile
 pub mod Laws
+pub mod Refusals
 pub mod Reading
 pub mod Openings
 pub mod Kept

@@ -42,7 +42,9 @@ fn are_of(dimension: u8, cells: &[Cell]) -> bool
 impl Gathered {
     // One more element, whose corners are not too long.
     fn join_cubes(&mut self, cube: Cell, values: &[Cell]) -> Result<(), Refusal>
-        ensures { (m : Mapping) (q : List ℤ) (vs : List (List ℤ)) → IsGathered self.old m → AreCubes q vs cube values.now → Joins (element_cause m q vs) (with_item m (listed q vs)) self.new result }
+        ensures { (m : Mapping) (q : List ℤ) (vs : List (List ℤ)) → IsGathered self.old m
+            → AreCubes q vs cube values.now
+            → Joins (element_cause m q vs) (with_item m (listed q vs)) self.new result }
     {
         let dimension = cube.embedding() as u8;
         if self.dimension != 0 && self.dimension != dimension {
@@ -66,7 +68,8 @@ impl Gathered {
 
     // One more element.
     fn join_element(&mut self, left: &OpenCorner, values: &Values) -> Result<(), Refusal>
-        ensures { (m : Mapping) (q : List ℤ) (vs : List (List ℤ)) → IsGathered self.old m → IsCorner left.now q → IsValues values.now vs → fits (listed q vs) ≡ true
+        ensures { (m : Mapping) (q : List ℤ) (vs : List (List ℤ)) → IsGathered self.old m
+            → IsCorner left.now q → IsValues values.now vs → fits (listed q vs) ≡ true
             → Joins (element_cause m q vs) (with_item m (listed q vs)) self.new result }
     {
         if values.long {
@@ -80,7 +83,8 @@ impl Gathered {
 
     // A dimension line.
     fn join_dimension(&mut self, z: i64) -> Result<(), Refusal>
-        ensures { (m : Mapping) → IsGathered self.old m → Joins (dimension_cause (known m) z) (with_item m (dimension_line z)) self.new result }
+        ensures { (m : Mapping) → IsGathered self.old m
+            → Joins (dimension_cause (known m) z) (with_item m (dimension_line z)) self.new result }
     {
         if z < 1 {
             return Err(Refusal::Cause(TextCause::BadNumber));
@@ -98,7 +102,8 @@ impl Gathered {
 
     /// A whole item; these are the corners of its list.
     pub(crate) fn join(&mut self, closing: Closing, values: &mut Values) -> Result<(), Refusal>
-        ensures { (m : Mapping) (vs : List (List ℤ)) (item : Item) → IsGathered self.old m → IsValues values.old vs → IsClosing vs closing item → fits item ≡ true
+        ensures { (m : Mapping) (vs : List (List ℤ)) (item : Item) → IsGathered self.old m
+            → IsValues values.old vs → IsClosing vs closing item → fits item ≡ true
             → Joins (cause_of m item) (with_item m item) self.new result }
     {
         match closing {

@@ -9,5 +9,5 @@ mod parts;
 mod reader;
 mod values;
 
-pub use laws::texts_have_one_outcome;
+pub use laws::{refusals_are_first, texts_have_one_outcome};
 pub use map_file::read_map;

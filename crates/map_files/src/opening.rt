@@ -83,7 +83,8 @@ fn outside(piece: Piece) -> Turn
 
 // One of two marks that are wanted, and what each does.
 fn wanting(one: u8, first: Turn, other: u8, second: Turn, piece: Piece) -> Turn
-    ensures { (vs : List (List ℤ)) (s t : Step) → StepsAs vs first s → StepsAs vs second t → StepsAs vs result (for_marks one s other t piece) }
+    ensures { (vs : List (List ℤ)) (s t : Step) → StepsAs vs first s → StepsAs vs second t
+        → StepsAs vs result (for_marks one s other t piece) }
 {
     match piece {
         Piece::Mark(b) => {
@@ -101,7 +102,8 @@ fn wanting(one: u8, first: Turn, other: u8, second: Turn, piece: Piece) -> Turn
 
 // What a piece does where an arrow is wanted.
 fn arrow(piece: Piece, found: Turn) -> Turn
-    ensures { (vs : List (List ℤ)) (s : Step) → StepsAs vs found s → StepsAs vs result (for_arrow s piece) }
+    ensures { (vs : List (List ℤ)) (s : Step) → StepsAs vs found s
+        → StepsAs vs result (for_arrow s piece) }
 {
     match piece {
         Piece::Arrow => found,

@@ -57,7 +57,8 @@ impl Parts {
 
     /// One more element.
     pub(crate) fn join(&mut self, cube: Cell, values: &[Cell]) -> Result<(), AllocError>
-        ensures { OnOk result ((named : List Naming) → IsKept self.old named → IsKept self.new (changed cube (joined values.now) named)) }
+        ensures { OnOk result ((named : List Naming) → IsKept self.old named
+            → IsKept self.new (changed cube (joined values.now) named)) }
     {
         self.name(cube)?;
         for value in values {

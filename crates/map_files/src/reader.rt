@@ -1,5 +1,5 @@
-//! The reader of map files: a machine of fixed size over the bytes of a text, beside the distinct cubes and pairs so far and the corners
-//! of a list that stands open.
+//! The reader of map files: a machine of fixed size over the bytes of a text, beside the distinct
+//! cubes and pairs so far and the corners of a list that stands open.
 ghost use Rattle.std.specs.Prelude.{◌≡◌, ◌∷◌, ℕ, ℤ, List, IfOk};
 ghost use Rattle.cube_maps.specs.CubeMaps.{Mapping};
 ghost use Rattle.grid_files.specs.Scanning.{IsCarry, listed};
@@ -45,7 +45,8 @@ fn start_of(opening: Opening, start: u64, at: u64) -> u64
 
 // The place of an item's fault.
 fn closing_place(closing: Closing, start: u64, at: u64) -> u64
-    ensures { (vs : List (List ℤ)) (item : Item) → IsClosing vs closing item → result ≡ closing_place item start at }
+    ensures { (vs : List (List ℤ)) (item : Item) → IsClosing vs closing item
+        → result ≡ closing_place item start at }
 {
     match closing {
         Closing::Dimension(_) => at,
@@ -72,7 +73,8 @@ impl Reader {
 
     // One more piece.
     fn take(&mut self, at: u64, piece: Piece) -> Result<(), TextFault>
-        ensures { (m : Mapping) (o : Open) → Reads self.old m o → Leads m o self.old.start (λ rest. (at, piece) ∷ rest) self.new result }
+        ensures { (m : Mapping) (o : Open) → Reads self.old m o
+            → Leads m o self.old.start (λ rest. (at, piece) ∷ rest) self.new result }
     {
         let start = start_of(self.opening, self.start, at);
         match take_turn(self.opening, piece) {
@@ -108,7 +110,8 @@ impl Reader {
 
     // A piece, if there is one.
     fn take_any(&mut self, placed: Option<Placed>) -> Result<(), TextFault>
-        ensures { (m : Mapping) (o : Open) → Reads self.old m o → Leads m o self.old.start (listed placed) self.new result }
+        ensures { (m : Mapping) (o : Open) → Reads self.old m o
+            → Leads m o self.old.start (listed placed) self.new result }
     {
         match placed {
             Some(placed) => self.take(placed.0, placed.1),
@@ -118,7 +121,8 @@ impl Reader {
 
     // At most two pieces.
     fn take_both(&mut self, first: Option<Placed>, second: Option<Placed>) -> Result<(), TextFault>
-        ensures { (m : Mapping) (o : Open) → Reads self.old m o → Leads m o self.old.start (λ rest. listed first (listed second rest)) self.new result }
+        ensures { (m : Mapping) (o : Open) → Reads self.old m o
+            → Leads m o self.old.start (λ rest. listed first (listed second rest)) self.new result }
     {
         match self.take_any(first) {
             Ok(()) => self.take_any(second),
@@ -129,7 +133,8 @@ impl Reader {
     /// One more byte, which stands at this place.
     pub(crate) fn feed(&mut self, carry: Carry, place: u64, b: u8) -> Result<Carry, TextFault>
         requires { IsCarry carry }
-        ensures feeds { (m : Mapping) (o : Open) → Reads self.old m o → Feeds m o self.old.start carry place b self.new result }
+        ensures feeds { (m : Mapping) (o : Open) → Reads self.old m o
+            → Feeds m o self.old.start carry place b self.new result }
         ensures carry { IfOk result (λ next. IsCarry next) }
         ensures line { IfOk result (λ next. b ≡ 10 → next ≡ Between) }
     {

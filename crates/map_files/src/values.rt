@@ -36,7 +36,8 @@ impl Values {
 
     /// One more corner.
     pub(crate) fn add(&mut self, corner: &OpenCorner) -> Result<(), AllocError>
-        ensures { OnOk result ((vs : List (List ℤ)) (v : List ℤ) → IsValues self.old vs → IsCorner corner.now v → fits_cube v ≡ true → IsValues self.new (vs ++ v ∷ [])) }
+        ensures { OnOk result ((vs : List (List ℤ)) (v : List ℤ) → IsValues self.old vs
+            → IsCorner corner.now v → fits_cube v ≡ true → IsValues self.new (vs ++ v ∷ [])) }
     {
         match full_cube(corner) {
             Ok(cell) => self.cells.push(cell)?,
