@@ -1,6 +1,6 @@
 -- Acyclic sets and lists of cells: whether a set is acyclic depends on its cells alone, and a closed list that has each of its
 -- cells once is acyclic as a list exactly where it is as a set
-use Rattle.std.proofs.Common.{◌≡◌, ◌≢◌, ◌↔◌, ℕ, zero, suc, ◌+◌, ◌*◌, ◌<◌, inl, inr, refl, sym, ap, ◌∙◌, arith, ⊎_elim, List, [], ◌∷◌, length, Bool, true, false, cond, subst, get_or}
+use Rattle.std.proofs.Common.{◌≡◌, ◌↔◌, ℕ, zero, suc, ◌+◌, ◌*◌, ◌<◌, inl, inr, refl, sym, ap, ◌∙◌, arith, ⊎_elim, List, [], ◌∷◌, length, Bool, true, false, cond, subst, get_or}
 use Rattle.std.specs.List.{Contains, filter}
 use Rattle.std.specs.Cmp as cmp
 use Rattle.std.proofs.lemmas.Bool.{true≢false, cases_Bool}
@@ -8,17 +8,15 @@ use Rattle.std.proofs.lemmas.List.{get_or_default}
 use Rattle.std.proofs.lemmas.List.Elements.{Contains-get_or}
 use Rattle.std.proofs.lemmas.List.Folds.{list_any_at}
 use Rattle.field_mod.specs.Sums.{total}
-use Rattle.field_mod.specs.Modular.{Same}
 use Rattle.field_mod.proofs.Sums.{total-same, total-scale, total-swap}
 use Rattle.field_mod.proofs.Modular.{same_trans}
-use Rattle.elem_cubes.specs.Cells.{Factor, dimension_of}
-use Rattle.elem_cubes.specs.Faces.{IsFacet, is_face, closure_of}
-use Rattle.elem_cubes.specs.Boundary.{boundary_at}
+use Rattle.elem_cubes.specs.Cells.{Factor}
+use Rattle.elem_cubes.specs.Faces.{is_face, closure_of}
 use Rattle.elem_cubes.specs.Order.{cell_cmp}
 use Rattle.elem_cubes.specs.Laws.{cell_at}
 use Rattle.elem_cubes.proofs.FaceLemmas.{face_refl}
 use Rattle.elem_cubes.proofs.Listing.{closures_are_faces}
-use Rattle.elem_cubes.proofs.Members.{In, In-from, from-In, Apart, apart_places}
+use Rattle.elem_cubes.proofs.Members.{In, from-In, Apart, apart_places}
 use Rattle.elem_cubes.proofs.Modular.{exact}
 use Rattle.elem_cubes.proofs.Boundaries.{at_cell, spread, boundary-none}
 use Rattle.chains.specs.Homology.{System, IsChain, IsCycle, IsNull}

@@ -1,18 +1,17 @@
 -- Cells that are moved by whole numbers: their boundaries and closures move with them, and so acyclic lists stay acyclic
-use Rattle.std.proofs.Common.{◌≡◌, ◌≢◌, ℕ, ◌+◌, ◌-◌, ◌*◌, ◌≤◌, refl, sym, ap, ◌∙◌, arith, ⊎_elim, List, [], ◌∷◌, ◌++◌, Bool, true, false, cond, map, subst}
+use Rattle.std.proofs.Common.{◌≡◌, ℕ, ◌+◌, ◌-◌, ◌*◌, refl, sym, ap, ◌∙◌, arith, List, [], ◌∷◌, ◌++◌, cond, map, subst}
 use Rattle.std.specs.Prelude.{ℤ, pos, negsuc, ◌+ℤ◌, neg_ℤ}
 use Rattle.std.specs.List.{Contains, flat_map}
 use Rattle.std.specs.Cmp as cmp
 use Rattle.std.proofs.lemmas.Int.{ints}
-use Rattle.field_mod.specs.Modular.{Same}
-use Rattle.field_mod.proofs.Modular.{same_trans, same_sym}
+use Rattle.field_mod.proofs.Modular.{same_trans}
 use Rattle.elem_cubes.specs.Cells.{Factor, point, interval, dimension_of}
 use Rattle.elem_cubes.specs.Faces.{parts_of, closure_of}
 use Rattle.elem_cubes.specs.Boundary.{boundary_at}
 use Rattle.elem_cubes.specs.Order.{cell_cmp}
 use Rattle.elem_cubes.proofs.Members.{In, In-from, from-In, In-map, map-In}
 use Rattle.elem_cubes.proofs.Modular.{exact}
-use Rattle.chains.specs.Homology.{IsChain, IsCycle, IsNull}
+use Rattle.chains.specs.Homology.{IsChain, IsNull}
 use Rattle.cube_sets.specs.Sorted.{has}
 use Rattle.cell_complex.specs.RelativeComplex.{restriction_to}
 use Rattle.cell_complex.specs.AcyclicLists.{complex_of_cells, augmentation_over, IsAcyclicList}

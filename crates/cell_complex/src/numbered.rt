@@ -5,19 +5,20 @@ ghost use Rattle.elem_cubes.specs.Laws.{cell_at};
 ghost use Rattle.cell_complex.specs.Sorted.{IsSortedCells};
 ghost use Rattle.cell_complex.specs.Numbering.{number_of};
 
+use crate::starts::Starts;
 use elem_cubes::Cell;
-use indexmap::IndexSet;
 use std::alloc::{AllocError, Global};
 use std::marker::Model;
 
-// How many cells are looked at before a search of all.
+// How many cells are looked at one by one before a search of all.
 const FEW: usize = 16;
 
 /// Distinct cells in the order of cells, seen as their list: fewer than 2^32, with as many factors as each other and
 /// within the range of the files. The number of a cell is its place, counted from 0.
 #[derive(Drop)]
 pub struct Numbered {
-    cells: IndexSet<Cell>,
+    cells: Vec<Cell>,
+    starts: Starts,
 }
 
 impl Model for Numbered {
@@ -27,9 +28,9 @@ impl Model for Numbered {
 
     ghost Value = { List (List Factor) };
 
-    ghost view = { λ s. s.cells.keys };
+    ghost view = { λ s. s.cells.items };
 
-    ghost invariant = { λ s. IsSortedCells s.cells.keys };
+    ghost invariant = { λ s. IsSortedCells s.cells.items };
 }
 
 impl Numbered {
@@ -38,11 +39,17 @@ impl Numbered {
         requires { IsSortedCells cells.now }
         ensures { IfOk result (λ numbered. numbered ≡ cells.now) }
     {
-        let mut numbered = IndexSet::with_capacity(alloc, cells.len())?;
-        for cell in cells {
-            numbered.insert(*cell)?;
-        }
-        Ok(Numbered { cells: numbered })
+        let kept = Vec::from_slice(alloc, cells)?;
+        Numbered::of_list(alloc, kept)
+    }
+
+    // The same, of a list that is moved in.
+    pub(crate) fn of_list(alloc: Global, cells: Vec<Cell>) -> Result<Numbered, AllocError>
+        requires { IsSortedCells cells.items }
+        ensures { IfOk result (λ numbered. numbered ≡ cells.items) }
+    {
+        let starts = Starts::of(alloc, &cells)?;
+        Ok(Numbered { cells, starts })
     }
 
     /// How many cells there are.
@@ -65,7 +72,7 @@ impl Numbered {
         requires { number < length self.now }
         ensures { result ≡ cell_at self.now number }
     {
-        self.cells()[number as usize]
+        self.cells[number as usize]
     }
 
     /// The cells in order.
@@ -73,7 +80,7 @@ impl Numbered {
         ensures value { result.now ≡ self.now }
         ensures sorted { IsSortedCells self.now }
     {
-        self.cells.as_slice()
+        &self.cells
     }
 
     /// The number of a cell, or `None` where it is not there.
@@ -83,10 +90,23 @@ impl Numbered {
         ensures number { IfSome result (λ number. number ≡ number_of self.now cell.now) }
         ensures sorted { IsSortedCells self.now }
     {
-        let Some(index) = self.cells.get_index_of(cell) else {
+        match place_from(&self.cells, cell, self.starts.place_near(cell)) {
+            Some(place) => Some(place as u32),
+            None => self.searched(cell),
+        }
+    }
+
+    // The same, by a search of all cells.
+    fn searched(&self, cell: &Cell) -> Option<u32>
+        ensures found { IsSome result ↔ Contains self.now cell.now }
+        ensures place { IfSome result (λ number. slice_get self.now number ≡ Some cell.now) }
+        ensures number { IfSome result (λ number. number ≡ number_of self.now cell.now) }
+        ensures sorted { IsSortedCells self.now }
+    {
+        let Ok(place) = self.cells.binary_search(cell) else {
             return None;
         };
-        Some(index as u32)
+        Some(place as u32)
     }
 
     // The same, found sooner where the cell is one of the few from a place on.
@@ -95,7 +115,7 @@ impl Numbered {
         ensures place { IfSome result (λ number. slice_get self.now number ≡ Some cell.now) }
         ensures sorted { IsSortedCells self.now }
     {
-        match place_from(self.cells(), cell, near as usize) {
+        match place_from(&self.cells, cell, near) {
             Some(place) => Some(place as u32),
             None => self.number(cell),
         }
@@ -103,11 +123,12 @@ impl Numbered {
 }
 
 // The place of a cell, where it is one of the few from a place on.
-fn place_from(cells: &[Cell], cell: &Cell, near: usize) -> Option<usize>
+fn place_from(cells: &[Cell], cell: &Cell, near: u32) -> Option<usize>
     ensures { IfSome result (λ place. slice_get cells.now place ≡ Some cell.now) }
 {
-    let end = near.saturating_add(FEW).min(cells.len());
-    for place in near..end {
+    let first = near as usize;
+    let end = (first + FEW).min(cells.len());
+    for place in first..end {
         if cells[place] == *cell {
             return Some(place);
         }

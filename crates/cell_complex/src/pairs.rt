@@ -49,7 +49,7 @@ pub fn relative_within(
     if limit - subset.cells().len() < cells.len() {
         return Err(CellsFault::TooManyCells);
     }
-    let numbered = Numbered::of_sorted(alloc, &cells)?;
+    let numbered = Numbered::of_list(alloc, cells)?;
     Ok(numbered)
 }
 

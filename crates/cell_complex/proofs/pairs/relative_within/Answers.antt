@@ -29,13 +29,13 @@ returns-then-limit-cells-clause-many c e =
     let n = pair_count c.args.x.now.cells c.args.a.now.cells c.cells.result.now c.cells-2.result.now (c.cells.ensures.cells ∙ c.in_ok-faces.ensures.cells) (c.cells-2.ensures.cells ∙ c.in_ok-subset.ensures.cells) in
     omega (arith, n, ap length c.in_ok-cells.ensures, ap length (c.cells-3.ensures.cells ∙ sym c.cells-2.ensures.cells), c.len.ensures, c.if-limit-cells.true)
 
-pub of_sorted-requires : goal.of_sorted-requires
-of_sorted-requires c =
-    subst IsSortedCells (sym (c.deref.ensures.value ∙ c.in_ok-cells.ensures ∙ ap (λ (l : List (List Factor)). without l c.cells-2.result.now) c.cells.ensures.cells)) (sorted_without c.in_ok-faces.faces c.cells-2.result.now c.cells.ensures.set)
+pub of_list-requires : goal.of_list-requires
+of_list-requires c =
+    subst IsSortedCells (sym (c.in_ok-cells.ensures ∙ ap (λ (l : List (List Factor)). without l c.cells-2.result.now) c.cells.ensures.cells)) (sorted_without c.in_ok-faces.faces c.cells-2.result.now c.cells.ensures.set)
 
 pub returns-clause-cells : goal.returns-clause-cells
 returns-clause-cells c =
-    let e = c.in_ok-numbered.ensures ∙ c.deref.ensures.value ∙ c.in_ok-cells.ensures in
+    let e = c.in_ok-numbered.ensures ∙ c.in_ok-cells.ensures in
     let sorted = sorted_without c.in_ok-faces.faces c.cells-2.result.now c.cells.ensures.set in
     listing_of (is_relative c.args.x.now.cells c.args.a.now.cells) c.in_ok-numbered.numbered
     (subst IsSortedCells (sym (e ∙ ap (λ (l : List (List Factor)). without l c.cells-2.result.now) c.cells.ensures.cells)) sorted)

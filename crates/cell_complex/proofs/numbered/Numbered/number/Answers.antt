@@ -1,19 +1,13 @@
-use Rattle.std.proofs.Common.{refl}
-use Rattle.std.proofs.lemmas.Bool.{false≢true}
-use Rattle.cell_complex.proofs.Sorting.{missing, found, placed}
+use Rattle.std.proofs.Common.{◌∙◌, sym, ap, arith, length, List, []}
+use Rattle.elem_cubes.specs.Cells.{Factor}
+use Rattle.elem_cubes.specs.Laws.{cell_at}
+use Rattle.std.proofs.lemmas.Option.{get_or_from_slice_get, slice_get_within}
+use Rattle.cell_complex.proofs.Sorting.{present}
 use Rattle.cell_complex.proofs.numbered.Numbered.number.Goals as goal
 
-pub returns-in_default-clause-found : goal.returns-in_default-clause-found
-returns-in_default-clause-found c = (
-  λ e. absurd (false≢true e),
-  λ w. absurd (missing c.args.self.now c.self.inside.cells.keys c.args.cell.now c.get_index_of.result c.get_index_of.ensures.index c.self.view_is c.in_default.is w),
-)
-
-pub returns-clause-found : goal.returns-clause-found
-returns-clause-found c = (
-  λ e. found c.args.self.now c.self.inside.cells.keys c.args.cell.now c.in-Some.index c.get_index_of.result c.get_index_of.ensures.index c.self.view_is c.in-Some.is,
-  λ w. refl,
-)
-
-pub returns-clause-place : goal.returns-clause-place
-returns-clause-place c = placed c.args.self.now c.self.inside.cells.keys c.args.cell.now c.in-Some.index c.get_index_of.result c.get_index_of.ensures.index c.self.view_is c.in-Some.is
+pub returns-in-Some-clause-number : goal.returns-in-Some-clause-number
+returns-in-Some-clause-number c =
+    let same = c.deref.ensures.value ∙ c.self.view_is in
+    present c.self.inside.cells.items c.args.self.now c.args.cell.now c.in-Some.place c.self.view_is c.self.invariant.sorted
+    (omega (arith, slice_get_within c.deref.result.now c.in-Some.place c.args.cell.now c.in-Some.ensures, ap length same))
+    (ap (λ (l : List (List Factor)). cell_at l c.in-Some.place) (sym same) ∙ get_or_from_slice_get c.deref.result.now c.in-Some.place c.args.cell.now [] c.in-Some.ensures)
