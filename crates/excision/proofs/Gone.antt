@@ -1,8 +1,8 @@
 -- The faces of a cell that a test tells, and those that a log leaves, gathered face by face
-use Rattle.std.proofs.Common.{◌≡◌, ◌↔◌, ℕ, zero, suc, ◌^◌, ◌<◌, ◌≤◌, ◌⊎◌, inl, inr, refl, sym, ap, ◌∙◌, arith, ⊎_elim, List, [], ◌∷◌, ◌++◌, length, Bool, true, false, cond, subst, append_assoc, Result, Ok, Err, IfOk}
+use Rattle.std.proofs.Common.{◌≡◌, ℕ, zero, suc, ◌^◌, ◌<◌, ◌≤◌, inl, inr, refl, sym, ap, ◌∙◌, arith, ⊎_elim, List, [], ◌∷◌, ◌++◌, length, Bool, true, false, cond, append_assoc, Result, Ok, Err, IfOk}
 use Rattle.std.specs.List.{Contains, filter, list_all}
 use Rattle.std.specs.Cmp as cmp
-use Rattle.std.proofs.lemmas.Bool.{cases_Bool, both_ways}
+use Rattle.std.proofs.lemmas.Bool.{cases_Bool}
 use Rattle.std.proofs.lemmas.List.Folds.{list_any_at, Any-from_list_any}
 use Rattle.elem_cubes.specs.declared.range.TheConstants.{MAX_EMBEDDING}
 use Rattle.elem_cubes.specs.Cells.{Factor, dimension_of, is_file_factor}
@@ -12,15 +12,13 @@ use Rattle.elem_cubes.specs.Laws.{cell_at}
 use Rattle.elem_cubes.proofs.Bits.{few_intervals}
 use Rattle.elem_cubes.proofs.Choosing.{few_faces, length-closure}
 use Rattle.elem_cubes.proofs.FaceLemmas.{face_length, face_trans}
-use Rattle.elem_cubes.proofs.Listing.{closures_are_faces}
-use Rattle.elem_cubes.proofs.Members.{In, In-from, from-In, In-append, left-In, right-In}
+use Rattle.elem_cubes.proofs.Members.{In, In-from, from-In}
 use Rattle.elem_cubes.proofs.Ranges.{faces_stay_in_range}
 use Rattle.cube_sets.specs.Sorted.{has}
 use Rattle.cube_sets.specs.Sets.{Members, IsCubeSet, is_member}
 use Rattle.cube_sets.specs.Closures.{is_cell_of}
 use Rattle.cube_sets.proofs.Spreads.{has_In, In_has, all_from_In, In_passes}
 use Rattle.cube_sets.proofs.Covering.{member_parts, member_of, in_range}
-use Rattle.algebraic_reduction.specs.Reduction.{Step, IsUnpaired}
 use Rattle.cell_complex.specs.Sorted.{IsSortedCells}
 use Rattle.cell_complex.specs.RelativeComplex.{IsClosedList}
 use Rattle.cell_complex.specs.Acyclic.{IsAcyclic}
@@ -28,9 +26,7 @@ use Rattle.cell_complex.specs.Growth.{cells_in}
 use Rattle.cell_complex.proofs.Alike.{of_cells}
 use Rattle.cell_complex.proofs.Deciding.{has_is, has_from, from_has}
 use Rattle.cell_complex.proofs.Meeting.{cells_in-face, face-cells_in}
-use Rattle.cell_complex.proofs.Sorting.{apart}
-use Rattle.excision.specs.Left.{is_left, IsMovableInto, IsClosedIn, IsLeftFace}
-use Rattle.excision.proofs.Leaving.{left_from}
+use Rattle.excision.specs.Left.{IsMovableInto, IsClosedIn}
 
 -- ---- the faces that a test tells
 
@@ -121,59 +117,3 @@ movable_told p t q b new h = ((λ e. record { new = new; acyclic = h.0 e }), (λ
 pub ok_by : {E : Type 0} (P Q : Bool → Type 0) (r : Result Bool E) → IfOk r P → ((b : Bool) → P b → Q b) → IfOk r Q
 ok_by P Q (Ok b) h f = f b h
 ok_by P Q (Err e) h f = tt
-
--- ---- the numbers of the faces that are left
-
-pub record LeftSoFar (cells : List (List Factor)) (ss : List Step) (q : List Factor) (numbers : List ℕ) (rest : List (List Factor)) : Type 0 where
-  pub faces : (c : List Factor) → In rest c → IsFace q c
-  pub sound : (n : ℕ) → Contains numbers n → IsLeftFace cells ss q n
-  pub all : (n : ℕ) → IsLeftFace cells ss q n → In rest (cell_at cells n) ⊎ Contains numbers n
-
-pub left_first : (cells : List (List Factor)) (ss : List Step) (q : List Factor) (numbers : List ℕ) (rest : List (List Factor)) → rest ≡ closure_of q → numbers ≡ [] → LeftSoFar cells ss q numbers rest
-left_first cells ss q numbers rest e f = record {
-  faces = λ c i. (closures_are_faces.faces q c).0 (from-In (closure_of q) c (subst (λ (xs : List (List Factor)). In xs c) e i));
-  sound = λ n w. absurd (In-from [] n (subst (λ (xs : List ℕ). Contains xs n) f w));
-  all = λ n l. inl (subst (λ (xs : List (List Factor)). In xs (cell_at cells n)) (sym e) (In-from (closure_of q) (cell_at cells n) ((closures_are_faces.faces q (cell_at cells n)).1 l.face)));
-}
-
-module _ (cells : List (List Factor)) (ss : List Step) (q : List Factor) (numbers : List ℕ) (rest next : List (List Factor)) (c : List Factor) (sorted : IsSortedCells cells) (e : rest ≡ c ∷ next) (s : LeftSoFar cells ss q numbers rest) where
-  behind : (d : List Factor) → In next d → IsFace q d
-  behind d i = s.faces d (subst (λ (xs : List (List Factor)). In xs d) (sym e) (inr i))
-
-  front : IsFace q c
-  front = s.faces c (subst (λ (xs : List (List Factor)). In xs c) (sym e) (inl refl))
-
-  pub left_skip : is_left cells ss c ≡ false → LeftSoFar cells ss q numbers next
-  left_skip f = record {
-    faces = behind;
-    sound = s.sound;
-    all = λ n l. ⊎_elim
-        (λ i. ⊎_elim (λ k. absurd (both_ways (is_left cells ss c) f (ap (is_left cells ss) k ∙ left_from cells sorted ss n l.inside l.alive))) (λ i. inl i) (subst (λ (xs : List (List Factor)). In xs (cell_at cells n)) e i))
-        (λ w. inr w)
-        (s.all n l);
-  }
-
-  pub left_take : (now : List ℕ) (k : ℕ) → k < length cells → cell_at cells k ≡ c → IsUnpaired ss k → now ≡ numbers ++ k ∷ [] → LeftSoFar cells ss q now next
-  left_take now k inside is alive g = record {
-    faces = behind;
-    sound = λ n w. ⊎_elim
-        (λ i. s.sound n (from-In numbers n i))
-        (λ i. ⊎_elim (λ (x : k ≡ n). subst (λ (m : ℕ). IsLeftFace cells ss q m) x (record { inside = inside; face = subst (λ (d : List Factor). IsFace q d) (sym is) front; alive = alive })) (λ x. absurd x) i)
-        (In-append numbers (k ∷ []) n (subst (λ (xs : List ℕ). In xs n) g (In-from now n w)));
-    all = λ n l. ⊎_elim
-        (λ i. ⊎_elim
-        (λ x. inr (subst (λ (m : ℕ). Contains now m) (apart cells sorted.sorted k n inside l.inside (is ∙ x)) (later k (inr (inl refl)))))
-        (λ i. inl i)
-        (subst (λ (xs : List (List Factor)). In xs (cell_at cells n)) e i))
-        (λ w. inr (later n (inl (In-from numbers n w))))
-        (s.all n l);
-  }
-    where
-      later : (n : ℕ) → In numbers n ⊎ In (k ∷ []) n → Contains now n
-      later n h = from-In now n (subst (λ (xs : List ℕ). In xs n) (sym g) (⊎_elim (λ i. left-In numbers (k ∷ []) n i) (λ i. right-In numbers (k ∷ []) n i) h))
-
-pub left_end : (cells : List (List Factor)) (ss : List Step) (q : List Factor) (numbers : List ℕ) (rest : List (List Factor)) → rest ≡ [] → LeftSoFar cells ss q numbers rest → (n : ℕ) → Contains numbers n ↔ IsLeftFace cells ss q n
-left_end cells ss q numbers rest e s n = (
-  (λ w. s.sound n w),
-  (λ l. ⊎_elim (λ i. absurd (subst (λ (xs : List (List Factor)). In xs (cell_at cells n)) e i)) (λ w. w) (s.all n l)),
-)

@@ -11,3 +11,4 @@ pub mod Owning
 pub mod Moved
 pub mod Marking
 pub mod Remembering
+pub mod Placing

@@ -130,8 +130,8 @@ idle_but P x i q old new place kept idle j l f d = ⊎_elim
     (λ g. idle j l g)
     (cases_Bool (is_one_of old j))
 
-pub some_of : (o : Option (List Factor)) (P : List Factor → Type 0) (y : List Factor) → o ≡ Some y → IfSome o P → P y
-some_of o P y e h = let Q : Option (List Factor) → Type 0 = λ v. IfSome v P in subst Q e h
+pub some_of : (o : Option ℕ) (P : ℕ → Type 0) (y : ℕ) → o ≡ Some y → IfSome o P → P y
+some_of o P y e h = let Q : Option ℕ → Type 0 = λ v. IfSome v P in subst Q e h
 
 -- ---- the beginning
 
@@ -152,8 +152,8 @@ are_at cells ss q ns ms e are n = subst (λ (xs : List ℕ). Contains xs n ↔ I
 pub all_members : (P : List Factor → Type 0) (x : List (List Factor)) → ((j : ℕ) → j < length x → ¬ P (cell_at x j)) → (q : List Factor) → Contains x q → ¬ P q
 all_members P x none q w m = none w.0 w.1 (subst P (sym (sym (get_or_default x w.0 q [] w.1) ∙ w.2)) m)
 
-pub none_of : (o : Option (List Factor)) (P : Type 0) → o ≡ None → IfNone o P → P
-none_of o P e h = let Q : Option (List Factor) → Type 0 = λ v. IfNone v P in subst Q e h
+pub none_of : (o : Option ℕ) (P : Type 0) → o ≡ None → IfNone o P → P
+none_of o P e h = let Q : Option ℕ → Type 0 = λ v. IfNone v P in subst Q e h
 
 -- a fact of the last place and of those before it
 pub up_to : (P : ℕ → Type 0) (i k : ℕ) → k < i + 1 → (k < i → P k) → P i → P k

@@ -4,15 +4,12 @@ use Rattle.std.specs.List.{Contains}
 use Rattle.std.proofs.lemmas.Bool.{cases_eq, cases_lt}
 use Rattle.std.proofs.lemmas.List.{map-set, length-map, length-set, length-append, get_or-set_same, get_or-set_other}
 use Rattle.std.proofs.lemmas.List as lists
-use Rattle.std.proofs.lemmas.Option.{slice_get_within, get_or_from_slice_get}
+use Rattle.std.proofs.lemmas.Option.{get_or_from_slice_get}
 use Rattle.std.specs.Prelude.{slice_get, Some}
 use Rattle.elem_cubes.specs.Cells.{Factor}
-use Rattle.elem_cubes.specs.Faces.{IsFace, closure_of}
+use Rattle.elem_cubes.specs.Faces.{IsFace}
 use Rattle.elem_cubes.specs.Laws.{cell_at}
-use Rattle.elem_cubes.proofs.Listing.{closures_are_faces}
-use Rattle.elem_cubes.proofs.Members.{In, In-from, from-In, In-append, left-In, right-In}
-use Rattle.cell_complex.specs.Sorted.{IsSortedCells}
-use Rattle.cell_complex.proofs.Sorting.{apart}
+use Rattle.elem_cubes.proofs.Members.{In-from, from-In, In-append, left-In, right-In}
 use Rattle.excision.specs.Owners.{Names}
 
 -- ---- one more owner
@@ -78,54 +75,6 @@ empty_more {A} f xs now y i e none s = record {
 
 pub empty_end : {A : Type 0} (f : A → List ℕ) (xs : List A) (seen : List (List ℕ)) (i : ℕ) → seen ≡ map f xs → EmptyTo f xs i → (n j : ℕ) → ¬ Names seen n j
 empty_end f xs seen i e s n j w = In-from [] j (subst (λ (l : List ℕ). Contains l j) (ap (λ (l : List (List ℕ)). get_or l n []) e ∙ s.empty n) w)
-
--- ---- the owner of all faces of a cell
-
-pub record AddedTo (cells : List (List Factor)) (q : List Factor) (member : ℕ) (old now : List (List ℕ)) (rest : List (List Factor)) : Type 0 where
-  pub count : length now ≡ length old
-  pub kept : (n j : ℕ) → Names old n j → Names now n j
-  pub added : (n : ℕ) → n < length cells → IsFace q (cell_at cells n) → In rest (cell_at cells n) ⊎ Names now n member
-
-pub added_first : (cells : List (List Factor)) (q : List Factor) (member : ℕ) (old now : List (List ℕ)) (rest : List (List Factor)) → rest ≡ closure_of q → now ≡ old → AddedTo cells q member old now rest
-added_first cells q member old now rest e same = record {
-  count = ap length same;
-  kept = λ n j w. subst (λ (l : List (List ℕ)). Names l n j) (sym same) w;
-  added = λ n l f. inl (subst (λ (xs : List (List Factor)). In xs (cell_at cells n)) (sym e) (In-from (closure_of q) (cell_at cells n) ((closures_are_faces.faces q (cell_at cells n)).1 f)));
-}
-
-module _ (cells : List (List Factor)) (q : List Factor) (member : ℕ) (old now : List (List ℕ)) (rest next : List (List Factor)) (c : List Factor) (e : rest ≡ c ∷ next) (s : AddedTo cells q member old now rest) where
-  pub added_skip : ¬ Contains cells c → AddedTo cells q member old now next
-  added_skip none = record {
-    count = s.count;
-    kept = s.kept;
-    added = λ n l f. ⊎_elim
-        (λ i. ⊎_elim
-        (λ k. absurd (none (n, l, at n l ∙ sym k)))
-        (λ i. inl i)
-        (subst (λ (xs : List (List Factor)). In xs (cell_at cells n)) e i))
-        (λ w. inr w)
-        (s.added n l f);
-  }
-    where
-      at : (n : ℕ) → n < length cells → get_or cells n c ≡ cell_at cells n
-      at n l = lists.get_or_default cells n c [] l
-
-  pub added_more : (new : List (List ℕ)) (k : ℕ) → IsSortedCells cells → slice_get cells k ≡ Some c → length new ≡ length now → ((n j : ℕ) → Names now n j → Names new n j) → Names new k member → AddedTo cells q member old new next
-  added_more new k sorted place count kept named = record {
-    count = count ∙ s.count;
-    kept = λ n j w. kept n j (s.kept n j w);
-    added = λ n l f. ⊎_elim
-        (λ i. ⊎_elim
-        (λ x. inr (subst (λ (m : ℕ). Names new m member) (apart cells sorted.sorted k n (slice_get_within cells k c place) l (get_or_from_slice_get cells k c [] place ∙ x)) named))
-        (λ i. inl i)
-        (subst (λ (xs : List (List Factor)). In xs (cell_at cells n)) e i))
-        (λ w. inr (kept n member w))
-        (s.added n l f);
-  }
-
-pub added_end : (cells : List (List Factor)) (q : List Factor) (member : ℕ) (old now : List (List ℕ)) (rest : List (List Factor)) → rest ≡ [] → AddedTo cells q member old now rest
-    → (n : ℕ) → n < length cells → IsFace q (cell_at cells n) → Names now n member
-added_end cells q member old now rest e s n l f = ⊎_elim (λ i. absurd (subst (λ (xs : List (List Factor)). In xs (cell_at cells n)) e i)) (λ w. w) (s.added n l f)
 
 -- ---- the owners of the first members
 

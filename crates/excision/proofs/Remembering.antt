@@ -8,19 +8,19 @@ use Rattle.std.proofs.lemmas.Bool.{true≢false, cases_eq}
 use Rattle.std.proofs.lemmas.Int.{ints}
 use Rattle.elem_cubes.specs.Cells.{Factor, point, interval, is_wide}
 use Rattle.elem_cubes.specs.Faces.{closure_of}
-use Rattle.elem_cubes.proofs.FaceLemmas.{face_trans}
-use Rattle.elem_cubes.proofs.Members.{In-from, from-In}
+use Rattle.elem_cubes.proofs.FaceLemmas.{face_refl, face_trans}
+use Rattle.elem_cubes.proofs.Listing.{closures_are_faces}
+use Rattle.elem_cubes.proofs.Members.{In, In-from, from-In}
 use Rattle.cube_sets.proofs.Spreads.{has_In, In_has}
 use Rattle.algebraic_reduction.proofs.DueSteps.{at_same, at_other}
 use Rattle.cell_complex.specs.RelativeComplex.{IsClosedList}
-use Rattle.cell_complex.specs.Acyclic.{IsAcyclic}
 use Rattle.cell_complex.specs.AcyclicLists.{IsAcyclicList}
 use Rattle.cell_complex.specs.Growth.{cells_in}
 use Rattle.cell_complex.specs.Moved.{moved}
 use Rattle.cell_complex.proofs.Alike.{cells_in_once, lists_and_sets}
 use Rattle.cell_complex.proofs.Meeting.{cells_in-face, face-cells_in}
 use Rattle.cell_complex.proofs.Translating.{back, closure-moved, acyclic_moved}
-use Rattle.excision.specs.Left.{IsClosedIn}
+use Rattle.excision.specs.Left.{IsClosedIn, IsMovableInto}
 use Rattle.excision.specs.Known.{mask_from, Tells, AreKnown}
 
 -- ---- from one full cube to another
@@ -71,6 +71,16 @@ same_mask f s t (c ∷ cs) ds m n e k =
     kept true us e = ap (λ (xs : List (List Factor)). f c ∷ xs) e
     kept false us e = e
 
+-- at each item of the one list
+same_test : (f : List Factor → List Factor) (s t : List Factor → Bool) (cs : List (List Factor)) (m n : ℕ) → mask_from m s cs ≡ mask_from n t (map f cs) → (c : List Factor) → In cs c → s c ≡ t (f c)
+same_test f s t [] m n k c i = absurd i
+same_test f s t (d ∷ cs) m n k c i =
+    let w = same_mask f s t cs (map f cs) (2 * m + cond (s d) 1 0) (2 * n + cond (t (f d)) 1 0) refl k in
+    ⊎_elim
+    (λ e. subst (λ (v : List Factor). s v ≡ t (f v)) e (halves m n (s d) (t (f d)) w.0).1)
+    (λ h. same_test f s t cs (2 * m + cond (s d) 1 0) (2 * n + cond (t (f d)) 1 0) k c h)
+    i
+
 -- ---- what is told of one is told of all
 
 closed_cells : (q : List Factor) (t : List Factor → Bool) → IsClosedIn q t → IsClosedList (cells_in t q)
@@ -82,16 +92,26 @@ moved_back : (vs : List ℤ) (cs : List (List Factor)) → map (moved (map neg_�
 moved_back vs [] = refl
 moved_back vs (c ∷ cs) = λ j. back vs c j ∷ moved_back vs cs j
 
-pub tells : (p : ℕ) (q : List Factor) (s : List Factor → Bool) (b : Bool) → list_all is_wide q ≡ true → IsClosedIn q s → IsTrue b ↔ IsAcyclic p (cells_in s q) → Tells p (length q) (mask_from 0 s (closure_of q)) b
+self : (q : List Factor) → In (closure_of q) q
+self q = In-from (closure_of q) q ((closures_are_faces.faces q q).1 (face_refl q))
+
+pub tells : (p : ℕ) (q : List Factor) (s : List Factor → Bool) (b : Bool) → list_all is_wide q ≡ true → IsClosedIn q s → IsTrue b ↔ IsMovableInto p s q → Tells p (length q) (mask_from 0 s (closure_of q)) b
 tells p q s b wide inner told r t long wider closed mask =
     let vs = differences q r in
     let to : moved vs q ≡ r = moves_to q r (sym long) wide wider in
     let closures : closure_of r ≡ map (moved vs) (closure_of q) = ap closure_of (sym to) ∙ closure-moved vs q in
     let cells : cells_in t r ≡ map (moved vs) (cells_in s q) = (same_mask (moved vs) s t (closure_of q) (closure_of r) 0 0 closures (sym mask)).1 in
+    let whole : s q ≡ t r = same_test (moved vs) s t (closure_of q) 0 0 (sym mask ∙ ap (mask_from 0 t) closures) q (self q) ∙ ap t to in
     let here = lists_and_sets p (cells_in s q) (closed_cells q s inner) (cells_in_once s q) in
     let there = lists_and_sets p (cells_in t r) (closed_cells r t closed) (cells_in_once t r) in (
-      (λ e. there.1 (subst (λ (cs : List (List Factor)). IsAcyclicList p cs) (sym cells) (acyclic_moved p vs (cells_in s q) (here.0 (told.0 e))))),
-      (λ a. told.1 (here.1 (subst (λ (cs : List (List Factor)). IsAcyclicList p cs) (ap (map (moved (map neg_ℤ vs))) cells ∙ moved_back vs (cells_in s q)) (acyclic_moved p (map neg_ℤ vs) (cells_in t r) (there.0 a))))),
+      (λ e. let m = told.0 e in record {
+        new = sym whole ∙ m.new;
+        acyclic = there.1 (subst (λ (cs : List (List Factor)). IsAcyclicList p cs) (sym cells) (acyclic_moved p vs (cells_in s q) (here.0 m.acyclic)));
+      }),
+      (λ m. told.1 (record {
+        new = whole ∙ m.new;
+        acyclic = here.1 (subst (λ (cs : List (List Factor)). IsAcyclicList p cs) (ap (map (moved (map neg_ℤ vs))) cells ∙ moved_back vs (cells_in s q)) (acyclic_moved p (map neg_ℤ vs) (cells_in t r) (there.0 m.acyclic)));
+      })),
     )
 
 -- ---- one more answer

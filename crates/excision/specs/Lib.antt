@@ -1,5 +1,6 @@
 pub mod Excision
 pub mod Left
+pub mod Numbers
 pub mod Marks
 pub mod Taking
 pub mod Owners

@@ -1,5 +1,5 @@
 //! Growth of the subset of a pair.
-ghost use Rattle.std.specs.Prelude.{◌≡◌, ◌≢◌, ℕ, ◌<◌, List, [], length, true, false, IfOk, OnOk, IfSome, IfNone};
+ghost use Rattle.std.specs.Prelude.{◌≡◌, ◌≢◌, ℕ, ◌<◌, List, [], length, map, true, false, IfOk, OnOk, IfSome, IfNone};
 ghost use Rattle.std.specs.List.{Contains};
 ghost use Rattle.elem_cubes.specs.Cells.{Factor};
 ghost use Rattle.elem_cubes.specs.Laws.{cell_at};
@@ -7,17 +7,18 @@ ghost use Rattle.cell_complex.specs.Numbering.{IsComplexOf, IsRelativeComplex};
 ghost use Rattle.cell_complex.specs.Growth.{IsFinishedGrowth};
 ghost use Rattle.excision.specs.Known.{AreKnown};
 ghost use Rattle.excision.specs.Left.{is_gone, is_one_of, IsMovableInto, IsClosedIn};
+ghost use Rattle.excision.specs.Numbers.{face_numbers};
 ghost use Rattle.excision.specs.Owners.{Names};
 ghost use Rattle.excision.specs.Taking.{TakeFaces};
 
-use crate::movable::{is_movable, left_faces};
+use crate::face_numbers::FaceNumbers;
+use crate::movable::{is_movable, left_numbers};
 use crate::owners::Owners;
 use crate::part::reduce_part;
 use crate::waiting::Waiting;
 use algebraic_reduction::Log;
 use cell_complex::{CellList, Numbered};
 use cube_sets::CubeSet;
-use elem_cubes::Cell;
 use field_mod::Field;
 use std::alloc::{AllocError, Global};
 use std::collections::BTreeMap;
@@ -53,47 +54,51 @@ pub fn grow<const P: u16>(
     if a.is_empty() {
         return Ok(Grown { log, cubes });
     }
-    let owners = Owners::of(alloc, cells, x)?;
+    let faces = FaceNumbers::of(alloc, cells, x)?;
+    let owners = Owners::of(alloc, cells, x, &faces)?;
     let mut waiting = Waiting::below(alloc, x.len())?;
     let mut known = BTreeMap::new(alloc);
-    'moves: while let Some(cube) = next_movable(
+    'moves: while let Some(member) = next_movable(
         alloc,
         field,
         &log,
         cells,
         x,
+        &faces,
         &mut waiting,
         &mut known,
     )? {
-        let faces = left_faces(alloc, &log, cells, &cube)?;
-        wake(&owners, &faces, &mut waiting)?;
+        let numbers = left_numbers(alloc, &log, faces.of_member(member))?;
+        wake(&owners, &numbers, &mut waiting)?;
         let _ = log.step_count();
-        log = reduce_part(alloc, field, log, &faces)?;
+        log = reduce_part(alloc, field, log, &numbers)?;
         let _ = log.step_count();
-        cubes.push(cube)?;
+        cubes.push(x.cell(member))?;
     }
     Ok(Grown { log, cubes })
 }
 
-// The first waiting member that may be moved into the cells that are not left. Those before it wait no more; none of the others
-// that do not wait may be moved.
+// The first waiting member that may be moved into the cells that are not left, by its place. Those before it wait no more; none
+// of the others that do not wait may be moved.
 fn next_movable<const P: u16>(
     alloc: Global,
     field: Field<P>,
     log: &Log<P>,
     cells: &Numbered,
     x: &CubeSet,
+    faces: &FaceNumbers,
     waiting: &mut Waiting,
     known: &mut BTreeMap<u64, bool>,
-) -> Result<Option<Cell>, AllocError>
+) -> Result<Option<u32>, AllocError>
     requires complex { IsComplexOf P cells.now log.now.complex }
     requires closed { (q : List Factor) → Contains x.now.cells q → IsClosedIn q (is_gone cells.now log.now.steps) }
+    requires faces { faces.now ≡ map (face_numbers cells.now) x.now.cells }
     requires known { AreKnown P x.now.dimension known.old }
     requires idle { (j : ℕ) → j < length x.now.cells → is_one_of waiting.old j ≡ false → ¬ IsMovableInto P (is_gone cells.now log.now.steps) (cell_at x.now.cells j) }
     ensures known { OnOk result (AreKnown P x.now.dimension known.new) }
-    ensures some { IfOk result (λ o. IfSome o (IsMovableInto P (is_gone cells.now log.now.steps))) }
-    ensures member { IfOk result (λ o. IfSome o (Contains x.now.cells)) }
-    ensures rest { IfOk result (λ o. IfSome o (λ q. (j : ℕ) → j < length x.now.cells → is_one_of waiting.new j ≡ false → cell_at x.now.cells j ≢ q → ¬ IsMovableInto P (is_gone cells.now log.now.steps) (cell_at x.now.cells j))) }
+    ensures some { IfOk result (λ o. IfSome o (λ m. IsMovableInto P (is_gone cells.now log.now.steps) (cell_at x.now.cells m))) }
+    ensures member { IfOk result (λ o. IfSome o (λ m. m < length x.now.cells)) }
+    ensures rest { IfOk result (λ o. IfSome o (λ m. (j : ℕ) → j < length x.now.cells → is_one_of waiting.new j ≡ false → j ≢ m → ¬ IsMovableInto P (is_gone cells.now log.now.steps) (cell_at x.now.cells j))) }
     ensures none { IfOk result (λ o. IfNone o ((j : ℕ) → j < length x.now.cells → ¬ IsMovableInto P (is_gone cells.now log.now.steps) (cell_at x.now.cells j))) }
 {
     'looking: while let Some(member) = waiting.pop() {
@@ -101,8 +106,9 @@ fn next_movable<const P: u16>(
             continue;
         }
         let cube = x.cell(member);
-        if is_movable(alloc, field, log, cells, &cube, known)? {
-            return Ok(Some(cube));
+        let numbers = faces.of_member(member);
+        if is_movable(alloc, field, log, cells, &cube, numbers, known)? {
+            return Ok(Some(member));
         }
     }
     Ok(None)

@@ -5,6 +5,7 @@ ghost use Rattle.algebraic_reduction.specs.Reduction.{IsUnpaired};
 ghost use Rattle.cell_complex.specs.Sorted.{IsSortedCells};
 ghost use Rattle.cell_complex.specs.Numbering.{IsComplexOf};
 ghost use Rattle.excision.specs.Left.{is_left, is_gone};
+ghost use Rattle.excision.specs.Numbers.{is_taken};
 
 use algebraic_reduction::Log;
 use cell_complex::Numbered;
@@ -36,4 +37,14 @@ pub(crate) fn is_gone<const P: u16>(log: &Log<P>, cells: &Numbered, cell: &Cell)
     ensures { result ≡ is_gone cells.now log.now.steps cell.now }
 {
     left_number(log, cells, cell).is_none()
+}
+
+// Whether a number is not that of a generator that is left.
+pub(crate) fn is_taken<const P: u16>(log: &Log<P>, number: u32) -> bool
+    ensures { result ≡ is_taken (length log.now.complex.boundaries) log.now.steps number }
+{
+    if number >= log.complex().len() {
+        return true;
+    }
+    !log.alive(number)
 }

@@ -3,6 +3,7 @@
 
 mod deciding;
 mod excising;
+mod face_numbers;
 mod growing;
 mod laws;
 mod left;
@@ -13,6 +14,7 @@ mod waiting;
 
 pub use deciding::is_acyclic;
 pub use excising::excise;
+pub use face_numbers::FaceNumbers;
 pub use growing::{Grown, grow};
 pub use laws::{
     excision_keeps_cells, faces_leave_restrictions, moves_leave_restrictions,

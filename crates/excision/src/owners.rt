@@ -1,12 +1,12 @@
 //! Lists of numbers, by numbers: the members of a set by the numbers of their cells.
-ghost use Rattle.std.specs.Prelude.{◌≡◌, ℕ, ◌<◌, ◌⊎◌, [], List, length, slice_index_or, IfOk, OnOk};
-ghost use Rattle.elem_cubes.specs.Faces.{IsFace};
-ghost use Rattle.elem_cubes.specs.Laws.{cell_at};
+ghost use Rattle.std.specs.Prelude.{◌≡◌, ℕ, ◌<◌, ◌⊎◌, [], List, length, map, slice_index_or, IfOk, OnOk};
+ghost use Rattle.std.specs.List.{Contains};
+ghost use Rattle.excision.specs.Numbers.{face_numbers};
 ghost use Rattle.excision.specs.Owners.{Names, AreOwners};
 
+use crate::face_numbers::FaceNumbers;
 use cell_complex::Numbered;
 use cube_sets::CubeSet;
-use elem_cubes::Cell;
 use smallvec::SmallVec;
 use std::alloc::{AllocError, Global};
 use std::marker::Model;
@@ -27,13 +27,20 @@ impl Model for Owners {
 
 impl Owners {
     /// The owners of all cells: the members that have them as faces.
-    pub(crate) fn of(alloc: Global, cells: &Numbered, x: &CubeSet) -> Result<Owners, AllocError>
+    pub(crate) fn of(
+        alloc: Global,
+        cells: &Numbered,
+        x: &CubeSet,
+        faces: &FaceNumbers,
+    ) -> Result<Owners, AllocError>
+        requires { faces.now ≡ map (face_numbers cells.now) x.now.cells }
         ensures count { IfOk result (λ o. length o ≡ length cells.now) }
         ensures owners { IfOk result (AreOwners cells.now x.now.cells) }
     {
+        let _ = cells.len();
         let mut owners = Owners::none(alloc, cells.len())?;
         for member in 0..x.len() {
-            owners.add(cells, &x.cell(member), member)?;
+            owners.add(faces.of_member(member), member)?;
         }
         Ok(owners)
     }
@@ -50,18 +57,24 @@ impl Owners {
         Ok(Owners { lists })
     }
 
-    // A member is one of the owners of each of its cells.
-    fn add(&mut self, cells: &Numbered, cell: &Cell, member: u32) -> Result<(), AllocError>
-        requires { length self.old ≡ length cells.now }
+    // How many lists there are.
+    fn len(&self) -> usize
+        ensures { result ≡ length self.now }
+    {
+        self.lists.len()
+    }
+
+    // A member is one of the owners of the cells of these numbers.
+    fn add(&mut self, numbers: &[u32], member: u32) -> Result<(), AllocError>
         ensures count { OnOk result (length self.new ≡ length self.old) }
         ensures kept { OnOk result ((n j : ℕ) → Names self.old n j → Names self.new n j) }
-        ensures added { OnOk result ((n : ℕ) → n < length cells.now → IsFace cell.now (cell_at cells.now n) → Names self.new n member) }
+        ensures added { OnOk result ((n : ℕ) → Contains numbers.now n → n < length self.old → Names self.new n member) }
     {
-        for face in cell.closure() {
-            let Some(number) = cells.number(&face) else {
+        for number in numbers {
+            if *number as usize >= self.len() {
                 continue;
-            };
-            self.push(number, member)?;
+            }
+            self.push(*number, member)?;
         }
         Ok(())
     }

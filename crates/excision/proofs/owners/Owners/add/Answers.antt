@@ -1,14 +1,18 @@
-use Rattle.std.proofs.Common.{◌∙◌, arith, refl}
-use Rattle.std.proofs.lemmas.Option.{slice_get_within}
-use Rattle.excision.proofs.Owning.{added_first, added_more}
+use Rattle.std.proofs.Common.{◌<◌, length, get_or, arith}
+use Rattle.excision.specs.Owners.{Names}
+use Rattle.excision.proofs.Moved.{up_to}
+use Rattle.excision.proofs.Parted.{at_all}
 use Rattle.excision.proofs.owners.Owners.add.Goals as goal
 
-pub loop-face-init : goal.loop-face-init
-loop-face-init c = added_first c.args.cells.now c.args.cell.now c.args.member c.args.self.now c.args.self.now c.into_iter-face-iterator.result (c.into_iter-face-iterator.ensures.into_iter_gives ∙ c.closure-face-items.ensures) refl
+pub loop-number-preserved : goal.loop-number-preserved
+loop-number-preserved c = record {
+  count = omega (arith, c.in_ok-push.ensures.count, c.loop-number.invariant.count);
+  kept = λ n j w. c.in_ok-push.ensures.kept n j (c.loop-number.invariant.kept n j w);
+  added = λ k l small. up_to (λ m. get_or c.args.numbers.now m 0 < length c.args.self.now → Names c.push.new.self (get_or c.args.numbers.now m 0) c.args.member) c.loop-number.number-index k l
+      (λ lt s. c.in_ok-push.ensures.kept (get_or c.args.numbers.now k 0) c.args.member (c.loop-number.invariant.added k lt s))
+      (λ s. c.in_ok-push.ensures.added)
+      small;
+}
 
-pub push-requires : goal.push-requires
-push-requires c = let l = slice_get_within c.args.cells.now c.in-Some-number.number c.in-Some.face c.in-Some-number.ensures.place in omega (arith, c.loop-face.invariant.count, c.requires)
-
-pub loop-face-preserved : goal.loop-face-preserved
-loop-face-preserved c = added_more c.args.cells.now c.args.cell.now c.args.member c.args.self.now c.loop-face.self c.loop-face.face-iterator c.next.new.self c.in-Some.face c.in-Some.ensures.steps c.loop-face.invariant
-    c.push.new.self c.in-Some-number.number c.number.ensures.sorted c.in-Some-number.ensures.place c.in_ok-push.ensures.count c.in_ok-push.ensures.kept c.in_ok-push.ensures.added
+pub returns-clause-added : goal.returns-clause-added
+returns-clause-added c n w small = at_all (λ m. m < length c.args.self.now → Names c.loop-number.self m c.args.member) c.args.numbers.now c.loop-number.number-index (omega arith) c.loop-number.invariant.added n w small
