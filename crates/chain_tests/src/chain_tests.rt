@@ -25,7 +25,7 @@ fn has_terms(chain: &Chain<5>, terms: Terms) -> bool {
             return false;
         }
     }
-    chain.terms() == terms && chain.len() == terms.len() && chain.is_empty() == terms.is_empty()
+    chain.len() == terms.len() && chain.is_empty() == terms.is_empty()
 }
 
 /// The product of the chains of these terms.

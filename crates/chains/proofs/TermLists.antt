@@ -128,10 +128,10 @@ named_at p low high (t ∷ ts) (suc i) h l =
     ((omega (arith, h.0, r.0)), r.1, (rw (ne_eqb t.0 (get_or ts i (0, 0)).0 (omega (arith, r.0))) (zero-add _ ∙ r.2)))
 
 -- a term that was read from a list ts of the terms us: its number is 1 .. p - 1, and the coefficient of its generator
-pub term_at : (p : ℕ) (ts us : List (ℕ × ℕ)) (i : ℕ) → ts ≡ us → IsNormal p us → i < length us → (0 < (get_or ts i (0, 0)).1) × ((get_or ts i (0, 0)).1 < p) × (coefficient us (get_or ts i (0, 0)).0 ≡ (get_or ts i (0, 0)).1)
-term_at p ts us i same h l =
-    let n = named_at p 0 (2 ^ 32) us i h l in
-    subst (λ (vs : List (ℕ × ℕ)). (0 < (get_or vs i (0, 0)).1) × ((get_or vs i (0, 0)).1 < p) × (coefficient us (get_or vs i (0, 0)).0 ≡ (get_or vs i (0, 0)).1)) (sym same) (n.1, number_at p 0 (2 ^ 32) us i h l, n.2)
-
-pub number_below : (p : ℕ) (ts us : List (ℕ × ℕ)) (i : ℕ) → ts ≡ us → IsNormal p us → i < length ts → (get_or ts i (0, 0)).1 < p
-number_below p ts us i same h l = number_at p 0 (2 ^ 32) ts i (rw same h) l
+-- the term t at i of the list us, which is kept as ts
+pub term_is : (p : ℕ) (ts us : List (ℕ × ℕ)) (i : ℕ) (t : ℕ × ℕ) → ts ≡ us → IsNormal p ts → i < length us → t ≡ get_or ts i (0, 0) → (0 < t.1) × (t.1 < p) × (coefficient us t.0 ≡ t.1)
+term_is p ts us i t same h l e =
+    let inside : i < length ts = subst (λ (vs : List (ℕ × ℕ)). i < length vs) (sym same) l in
+    let n = named_at p 0 (2 ^ 32) ts i h inside in
+    let at : (0 < (get_or ts i (0, 0)).1) × ((get_or ts i (0, 0)).1 < p) × (coefficient us (get_or ts i (0, 0)).0 ≡ (get_or ts i (0, 0)).1) = subst (λ (vs : List (ℕ × ℕ)). (0 < (get_or ts i (0, 0)).1) × ((get_or ts i (0, 0)).1 < p) × (coefficient vs (get_or ts i (0, 0)).0 ≡ (get_or ts i (0, 0)).1)) same (n.1, number_at p 0 (2 ^ 32) ts i h inside, n.2) in
+    subst (λ (u : ℕ × ℕ). (0 < u.1) × (u.1 < p) × (coefficient us u.0 ≡ u.1)) (sym e) at

@@ -1,4 +1,5 @@
 pub mod Terms
+pub mod Packed
 pub mod Homology
 pub mod ChainComplex
 pub mod Refusal

@@ -2,6 +2,7 @@
 ghost use Rattle.std.specs.Prelude.{◌≡◌, ℕ, ◌+◌, ◌*◌, ◌%◌, ◌<◌, ◌≤◌, List, [], length, IfOk, OnOk, OnErr, IsTrue, ◌↔◌, slice_index_or};
 ghost use Rattle.chains.specs.Terms.{coefficient, product, IsNormal};
 
+use crate::packed::{Packed, no_terms, pack};
 use crate::terms::{Terms, dot, merge, sum_terms};
 use field_mod::Field;
 use smallvec::SmallVec;
@@ -10,21 +11,22 @@ use std::marker::Model;
 
 /// A chain over the numbers modulo `P`: a finite map from generators to coefficients from 1 to `P - 1`. It is seen as
 /// the list of its terms by ascending generator, so that equal chains are equal lists. Each call that reads it says that
-/// the list is in this normal form. A chain of at most four terms makes no allocation.
+/// the list is in this normal form. It takes 24 bytes; a chain of at most four terms makes no allocation.
 #[derive(Drop)]
 pub struct Chain<const P: u16> {
-    terms: Terms,
+    packed: Packed,
+    alloc: Global,
 }
 
 impl<const P: u16> Model for Chain<P> {
     ghost use Rattle.std.specs.Prelude.{ℕ, List};
-    ghost use Rattle.chains.specs.Terms.{IsNormal};
+    ghost use Rattle.chains.specs.Packed.{kept, IsPacked};
 
     ghost Value = { List (ℕ × ℕ) };
 
-    ghost view = { λ c. c.terms.items };
+    ghost view = { λ c. kept c.packed };
 
-    ghost invariant = { λ c. IsNormal P c.terms.items };
+    ghost invariant = { λ c. IsPacked P c.packed };
 }
 
 impl<const P: u16> Chain<P> {
@@ -33,7 +35,8 @@ impl<const P: u16> Chain<P> {
         ensures { result ≡ [] }
     {
         Chain {
-            terms: SmallVec::new(alloc),
+            packed: no_terms(),
+            alloc,
         }
     }
 
@@ -61,7 +64,8 @@ impl<const P: u16> Chain<P> {
         ensures sum { IfOk result (λ c. (g : ℕ) → coefficient c g ≡ coefficient terms.old g % P) }
     {
         let terms = sum_terms(alloc, field, terms)?;
-        Ok(Chain { terms })
+        let packed = pack(alloc, field, terms)?;
+        Ok(Chain { packed, alloc })
     }
 
     /// Adds `scale` times the other chain, for a number `scale` below `P`. Where memory is wanting the chain stays as it was.
@@ -76,9 +80,10 @@ impl<const P: u16> Chain<P> {
         ensures sum { OnOk result ((g : ℕ) → coefficient self.new g ≡ (coefficient self.old g + scale * coefficient other.now g) % P) }
         ensures err { OnErr result (self.new ≡ self.old) }
     {
-        let alloc = *self.terms.allocator();
-        let merged = merge(alloc, field, &self.terms, scale, &other.terms)?;
-        self.terms = merged;
+        let left = self.packed.open();
+        let right = other.packed.open();
+        let merged = merge(self.alloc, field, left.as_slice(), scale, right.as_slice())?;
+        self.packed = pack(self.alloc, field, merged)?;
         Ok(())
     }
 
@@ -86,9 +91,8 @@ impl<const P: u16> Chain<P> {
     pub fn copy(&self, alloc: Global) -> Result<Self, AllocError>
         ensures { IfOk result (λ c. c ≡ self.now) }
     {
-        Ok(Chain {
-            terms: SmallVec::from_slice(alloc, &self.terms)?,
-        })
+        let packed = self.packed.copy(alloc)?;
+        Ok(Chain { packed, alloc })
     }
 
     /// The coefficient of a generator, 0 where it has no term.
@@ -96,7 +100,8 @@ impl<const P: u16> Chain<P> {
         ensures value { result ≡ coefficient self.now generator }
         ensures normal { IsNormal P self.now }
     {
-        let terms = self.terms.as_slice();
+        let opened = self.packed.open();
+        let terms = opened.as_slice();
         match terms.binary_search_by_key(&generator, |term| term.0) {
             Ok(place) => terms[place].1,
             Err(_) => 0,
@@ -108,7 +113,9 @@ impl<const P: u16> Chain<P> {
         ensures below { result < P }
         ensures value { result ≡ product self.now other.now % P }
     {
-        dot(field, &self.terms, &other.terms)
+        let left = self.packed.open();
+        let right = other.packed.open();
+        dot(field, left.as_slice(), right.as_slice())
     }
 
     /// How many terms there are.
@@ -116,7 +123,7 @@ impl<const P: u16> Chain<P> {
         ensures count { result ≡ length self.now }
         ensures normal { IsNormal P self.now }
     {
-        self.terms.len()
+        self.packed.len()
     }
 
     /// Whether this is the chain without terms.
@@ -124,7 +131,7 @@ impl<const P: u16> Chain<P> {
         ensures empty { IsTrue result ↔ (self.now ≡ []) }
         ensures normal { IsNormal P self.now }
     {
-        self.terms.is_empty()
+        self.packed.len() == 0
     }
 
     /// The term at a place below `len`, by ascending generator: the generator and its coefficient.
@@ -135,14 +142,14 @@ impl<const P: u16> Chain<P> {
         ensures below { result.1 < P }
         ensures alone { coefficient self.now result.0 ≡ result.1 }
     {
-        self.terms()[place]
+        self.packed.term(place)
     }
 
-    /// The terms by ascending generator.
-    pub fn terms(&self) -> &[(u32, u16)]
-        ensures value { result.now ≡ self.now }
-        ensures normal { IsNormal P self.now }
+    /// The terms by ascending generator, as a list.
+    pub fn to_vec(&self, alloc: Global) -> Result<Vec<(u32, u16)>, AllocError>
+        ensures { IfOk result (λ terms. terms.items ≡ self.now) }
     {
-        self.terms.as_slice()
+        let opened = self.packed.open();
+        Vec::from_slice(alloc, opened.as_slice())
     }
 }

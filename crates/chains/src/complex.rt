@@ -148,10 +148,11 @@ fn boundary_in<const P: u16>(
     ensures { IfOk result (λ b. (g : ℕ) → coefficient b g ≡ boundary boundaries.now (coefficient chain.now) g % P) }
 {
     products.clear();
-    for (generator, number) in chain.terms() {
-        let place = *generator as usize;
+    for index in 0..chain.len() {
+        let (generator, number) = chain.term(index);
+        let place = generator as usize;
         if place < boundaries.len() {
-            push_scaled(field, *number, &boundaries[place], products)?;
+            push_scaled(field, number, &boundaries[place], products)?;
         }
     }
     Chain::sum(alloc, field, products.as_mut_slice())
@@ -167,8 +168,9 @@ fn push_scaled<const P: u16>(
     requires { scale < P }
     ensures { OnOk result ((g : ℕ) → Same P (coefficient products.new.items g) (coefficient products.old.items g + scale * coefficient chain.now g)) }
 {
-    for (generator, number) in chain.terms() {
-        products.push((*generator, field.mul(scale, *number)))?;
+    for index in 0..chain.len() {
+        let (generator, number) = chain.term(index);
+        products.push((generator, field.mul(scale, number)))?;
     }
     Ok(())
 }

@@ -4,6 +4,7 @@
 mod chain;
 mod complex;
 mod laws;
+mod packed;
 mod terms;
 
 pub use chain::Chain;

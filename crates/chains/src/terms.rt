@@ -7,8 +7,8 @@ use field_mod::Field;
 use smallvec::SmallVec;
 use std::alloc::{AllocError, Global};
 
-/// Terms, each a generator and its coefficient. Up to four of them need no allocation.
-pub type Terms = SmallVec<(u32, u16), 4>;
+/// Terms, each a generator and its coefficient. Up to eight of them need no allocation.
+pub type Terms = SmallVec<(u32, u16), 8>;
 
 // One more term, but for a coefficient that is 0.
 fn push_term(terms: &mut Terms, generator: u32, number: u16) -> Result<(), AllocError>

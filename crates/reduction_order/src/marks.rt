@@ -74,8 +74,9 @@ impl Marks {
 
     /// The boundary of b is one more that waits.
     pub fn count<const P: u16>(&mut self, b: u32, boundary: &Chain<P>) {
-        for (generator, _) in boundary.terms() {
-            if let Some(mark) = self.marks.get_mut(*generator as usize) {
+        for place in 0..boundary.len() {
+            let (generator, _) = boundary.term(place);
+            if let Some(mark) = self.marks.get_mut(generator as usize) {
                 mark.count = mark.count.saturating_add(1);
                 mark.names ^= b;
             }
@@ -84,8 +85,9 @@ impl Marks {
 
     /// The boundary of b waits no longer.
     pub fn uncount<const P: u16>(&mut self, b: u32, boundary: &Chain<P>) {
-        for (generator, _) in boundary.terms() {
-            if let Some(mark) = self.marks.get_mut(*generator as usize) {
+        for place in 0..boundary.len() {
+            let (generator, _) = boundary.term(place);
+            if let Some(mark) = self.marks.get_mut(generator as usize) {
                 mark.count = mark.count.saturating_sub(1);
                 mark.names ^= b;
             }
@@ -94,8 +96,9 @@ impl Marks {
 
     /// Each generator of a row becomes heavier.
     pub fn weigh<const P: u16>(&mut self, row: &Chain<P>, more: u32) {
-        for (generator, _) in row.terms() {
-            if let Some(mark) = self.marks.get_mut(*generator as usize) {
+        for place in 0..row.len() {
+            let (generator, _) = row.term(place);
+            if let Some(mark) = self.marks.get_mut(generator as usize) {
                 mark.weight = mark.weight.saturating_add(more);
             }
         }

@@ -135,9 +135,10 @@ impl Plan {
         boundary: &Chain<P>,
         one_by_one: bool,
     ) -> Result<(), AllocError> {
-        for (generator, _) in boundary.terms() {
-            if self.marks.is_free(*generator) {
-                self.free.push_back(*generator)?;
+        for place in 0..boundary.len() {
+            let (generator, _) = boundary.term(place);
+            if self.marks.is_free(generator) {
+                self.free.push_back(generator)?;
                 if one_by_one {
                     self.order_free(complex)?;
                 }
@@ -174,9 +175,10 @@ impl Plan {
     /// The boundary of b waits no longer: queues what comes to be free.
     fn uncount<const P: u16>(&mut self, boundary: &Chain<P>, b: u32) -> Result<(), AllocError> {
         self.marks.uncount(b, boundary);
-        for (generator, _) in boundary.terms() {
-            if self.marks.is_free(*generator) {
-                self.free.push_back(*generator)?;
+        for place in 0..boundary.len() {
+            let (generator, _) = boundary.term(place);
+            if self.marks.is_free(generator) {
+                self.free.push_back(generator)?;
             }
         }
         Ok(())
@@ -206,11 +208,12 @@ impl Plan {
     pub fn choose<const P: u16>(&self, row: &Chain<P>, a: u32) -> usize {
         let mut best = 0;
         let mut least = u32::MAX;
-        for (place, (generator, _)) in row.terms().iter().enumerate() {
-            if *generator == a {
+        for place in 0..row.len() {
+            let (generator, _) = row.term(place);
+            if generator == a {
                 return place;
             }
-            let weight = self.marks.weight(*generator);
+            let weight = self.marks.weight(generator);
             if weight <= least {
                 best = place;
                 least = weight;

@@ -4,5 +4,5 @@ use Rattle.chains.specs.Terms.{coefficient}
 use Rattle.chains.specs.ChainComplex.{boundary}
 use Rattle.chains.proofs.complex.boundary_in.Given as goal
 
-abbrev pub invariant-loop-generator : goal.invariant-loop-generator
-invariant-loop-generator g l = (at : ℕ) → Same g.row.P (coefficient l.products.items at) (boundary l.boundaries (coefficient (take l.generator-index l.generator-items)) at)
+abbrev pub invariant-loop-index : goal.invariant-loop-index
+invariant-loop-index g l = (at : ℕ) → Same g.row.P (coefficient l.products.items at) (boundary l.boundaries (coefficient (take l.index l.chain)) at)
