@@ -1,13 +1,12 @@
 -- What is computed of a map and its sets, as promised of the job.
-use Rattle.std.proofs.Common.{◌≡◌, ◌⊎◌, inl, inr, ⊎_elim, ℕ, ◌<◌, ◌≤◌, true, false, refl, sym, ap, ◌∙◌, subst, cond, List, [], Result, Ok, Err, IfOk, IfErr, arith}
+use Rattle.std.proofs.Common.{◌≡◌, ◌⊎◌, inl, inr, ⊎_elim, ℕ, false, refl, sym, ap, ◌∙◌, subst, cond, List, [], Result, Ok, Err, IfOk, IfErr}
 use Rattle.std.specs.List.{Contains}
 use Rattle.field_mod.specs.Moduli.{IsModulus}
 use Rattle.elem_cubes.specs.Cells.{Factor}
 use Rattle.elem_cubes.proofs.Members.{In-from}
 use Rattle.cube_sets.specs.Closures.{cells_of}
-use Rattle.cube_maps.specs.CubeMaps.{Naming, names, value_of}
+use Rattle.cube_maps.specs.CubeMaps.{Naming, names}
 use Rattle.cell_complex.specs.CellCount.{cell_count}
-use Rattle.cell_complex.specs.Numbering.{cell_terms}
 use Rattle.acyclic_values.specs.Values.{IsValueAt}
 use Rattle.acyclic_values.specs.CarriedMaps.{GoesInto, IsAcyclicMap}
 use Rattle.acyclic_values.specs.Deciding.{IsNormalHole}
@@ -21,13 +20,12 @@ use Rattle.map_checks.specs.Carriers.{Carrying, IsCarrier}
 use Rattle.map_checks.specs.declared.map_fault.MapFault.{MapFault}
 use Rattle.map_checks.specs.declared.map_fault.MapFault.TheVariants as maps
 use Rattle.faults.specs.declared.fault.Fault.{Fault}
-use Rattle.faults.specs.declared.fault.Fault.TheVariants.{Limit, Undefined, LeavesRange, EmptyValue, NotAcyclic, OutOfMemory}
-use Rattle.faults.specs.declared.limit_name.LimitName.TheVariants.{Cells}
+use Rattle.faults.specs.declared.fault.Fault.TheVariants.{OutOfMemory}
 use Rattle.loading.specs.Jobs.{Computes, IsAllowed}
 use Rattle.map_tools.specs.declared.inputs.MapAndSets.{MapAndSets}
-use Rattle.map_tools.specs.MapRefusals.{IsShownHole, IsFromTo, IsFirstHollow, RefusesMap}
+use Rattle.map_tools.specs.MapRefusals.{IsFromTo, IsFirstHollow, RefusesMap}
 use Rattle.map_tools.specs.Telling.{hole_fault, IsTold, HasItsHole}
-use Rattle.map_tools.specs.Jobs.{most_cells, HasFew, RefusesMapOf, RefusesInput, modulus_of, values_text, IsValuesText}
+use Rattle.map_tools.specs.Jobs.{HasFew, RefusesMapOf, RefusesInput, modulus_of, values_text, IsValuesText}
 use Rattle.map_tools.proofs.Refusing.{none_refuses}
 use Rattle.map_tools.proofs.Judging.{allowed}
 
@@ -98,12 +96,6 @@ of_table : (q : ℕ) → IsModulus q → modulus_of q ≡ q
 of_table q h = ap (λ t. cond t q 2) h
 
 module _ (p : ℕ) (input : MapAndSets) (fault : Fault) where
-  pub domain_refused : ((most_cells < cell_count input.x.cells) × (fault ≡ Limit Cells most_cells)) ⊎ (fault ≡ OutOfMemory) → Computes (RefusesInput p) IsValuesText input (Err fault)
-  domain_refused r = record { right = tt; allowed = tt; fault = ⊎_elim (λ m. inl (inl (inl m.0, m.1))) (λ e. inr e) r }
-
-  pub range_refused : ((most_cells < cell_count input.y.cells) × (fault ≡ Limit Cells most_cells)) ⊎ (fault ≡ OutOfMemory) → Computes (RefusesInput p) IsValuesText input (Err fault)
-  range_refused r = record { right = tt; allowed = tt; fault = ⊎_elim (λ m. inl (inl (inr m.0, m.1))) (λ e. inr e) r }
-
   pub values_refused : IsModulus p → HasFew input → RefusesMapOf p input fault ⊎ (fault ≡ OutOfMemory) → Computes (RefusesInput (modulus_of p)) IsValuesText input (Err fault)
   values_refused h few r = record {
     right = tt;

@@ -6,7 +6,7 @@ use Rattle.elem_cubes.specs.Cells.{Factor}
 use Rattle.elem_cubes.specs.Order.{cell_cmp}
 use Rattle.elem_cubes.specs.OrderLemmas.{cell_cmp_total}
 use Rattle.cube_sets.specs.Sorted.{has}
-use Rattle.cube_sets.specs.Sets.{Members, IsCubeSet, dimensions_agree, holds}
+use Rattle.cube_sets.specs.Sets.{Members, IsCubeSet, dimensions_agree}
 use Rattle.cube_sets.specs.Neighbours.{are_full}
 use Rattle.cube_sets.proofs.Merging.{union-nil}
 use Rattle.cube_sets.proofs.SameSets.{has_itself}

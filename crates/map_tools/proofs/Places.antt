@@ -1,8 +1,8 @@
 -- Chains of a hole name places in its list.
-use Rattle.std.proofs.Common.{◌≡◌, ℕ, ◌<◌, ◌≤◌, ◌^◌, arith, List, length, get_or, sym, ◌∙◌, ⊎_elim}
+use Rattle.std.proofs.Common.{ℕ, ◌<◌, ◌^◌, arith, List, length, get_or, ⊎_elim}
 use Rattle.std.proofs.lemmas.Bool.{cases_lt}
 use Rattle.elem_cubes.specs.Cells.{Factor}
-use Rattle.chains.specs.Terms.{coefficient, IsNormal}
+use Rattle.chains.specs.Terms.{IsNormal}
 use Rattle.chains.proofs.TermLists.{named_at}
 use Rattle.acyclic_values.specs.Faults.{IsWithin}
 use Rattle.basis_reports.proofs.Normal.{coefficient_zero}

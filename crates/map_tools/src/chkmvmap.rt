@@ -22,11 +22,7 @@ use std::alloc::{AllocError as NoMemory, Global};
 /// How many cells the domain of the map of the files has, where the map goes from its domain to its
 /// range and its values at all of them are acyclic, or the first refusal.
 #[tactic(auto, unfolding(crate::specs::Jobs::values_job))]
-pub fn check_map<F: Files>(
-    alloc: Global,
-    files: &mut F,
-    job: &ValuesJob,
-) -> Result<Answer, Fault>
+pub fn check_map<F: Files>(alloc: Global, files: &mut F, job: &ValuesJob) -> Result<Answer, Fault>
     ensures { Answers (values_job job.now) (F.seen files.old) (F.seen files.new) result }
 {
     let input = load_map_and_sets(alloc, files, &job.map, &job.x, &job.y)?;

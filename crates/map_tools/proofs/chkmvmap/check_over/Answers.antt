@@ -1,4 +1,4 @@
-use Rattle.std.proofs.Common.{◌≡◌, List, [], ap, ◌∙◌}
+use Rattle.std.proofs.Common.{ap, ◌∙◌}
 use Rattle.elem_cubes.specs.Order.{cell_cmp}
 use Rattle.cube_sets.specs.Sorted.{has}
 use Rattle.map_tools.proofs.Fitting.{none_are, together_none}
