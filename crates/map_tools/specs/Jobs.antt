@@ -1,8 +1,9 @@
 -- What `chkmvmap` is asked to do.
-use Rattle.std.specs.Prelude.{◌≡◌, ◌<◌, ◌≤◌, ◌+◌, ◌⊎◌, ℕ, List, [], ◌∷◌, ◌++◌, if◌then◌else◌, ◌==◌, Result, Ok, Err, codes, decimal}
+use Rattle.std.specs.Prelude.{◌≡◌, ◌<◌, ◌≤◌, ◌+◌, ◌⊎◌, ℕ, List, [], ◌∷◌, ◌++◌, true, if◌then◌else◌, ◌==◌, Result, Ok, Err, codes, decimal}
 use Rattle.std.specs.List.{list_any}
 use Rattle.field_mod.specs.Moduli.{moduli}
 use Rattle.cube_sets.specs.Sets.{Members, dimensions_agree}
+use Rattle.cube_sets.specs.Neighbours.{are_full}
 use Rattle.cube_maps.specs.CubeMaps.{Mapping}
 use Rattle.cell_complex.specs.CellCount.{cell_count}
 use Rattle.grid_files.specs.declared.fault.Kind.TheVariants.{Full}
@@ -33,6 +34,14 @@ agreeing x_name y_name map x y =
     else Err (Dimension y_name y.dimension (known map.dimension x.dimension)))
     else Err (Dimension x_name x.dimension map.dimension)
 
+-- all cubes of both sets are full, and all known dimensions of the map and of the sets are equal
+pub record AreAlike (input : MapAndSets) : Type 0 where
+  pub full_x : are_full input.x.cells ≡ true
+  pub full_y : are_full input.y.cells ≡ true
+  pub map_x : dimensions_agree input.map.dimension input.x.dimension ≡ true
+  pub map_y : dimensions_agree input.map.dimension input.y.dimension ≡ true
+  pub x_y : dimensions_agree input.x.dimension input.y.dimension ≡ true
+
 -- the map, then the set of its domain, then that of its range, and then their dimensions
 abbrev pub AreMapAndSetsIn : List ℕ → List ℕ → List ℕ → Reading → Result MapAndSets Fault → Type 0
 AreMapAndSetsIn f x y read =
@@ -56,15 +65,22 @@ pub record HasFew (input : MapAndSets) : Type 0 where
   pub domain : cell_count input.x.cells ≤ most_cells
   pub range : cell_count input.y.cells ≤ most_cells
 
+-- the map is refused
+abbrev pub RefusesMapOf : ℕ → MapAndSets → Fault → Type 0
+RefusesMapOf p input = RefusesMap p input.map.named input.x.cells input.y.cells
+
 -- too many cells are refused, and then the map
 abbrev pub RefusesInput : ℕ → MapAndSets → Fault → Type 0
 RefusesInput p input fault = (HasTooMany input × (fault ≡ Limit Cells most_cells))
-    ⊎ (HasFew input × RefusesMap p input.map.named input.x.cells input.y.cells fault)
+    ⊎ (HasFew input × RefusesMapOf p input fault)
 
 -- ---- the answer: how many cells the domain has, whose values are all acyclic, since nothing refuses them
 
+abbrev pub values_text : ℕ → List ℕ
+values_text count = codes "acyclic values: " ++ decimal count ++ codes "\n"
+
 abbrev pub IsValuesText : MapAndSets → List ℕ → Type 0
-IsValuesText input text = text ≡ codes "acyclic values: " ++ decimal (cell_count input.x.cells) ++ codes "\n"
+IsValuesText input text = text ≡ values_text (cell_count input.x.cells)
 
 -- the modulus of words, which is one of the table; 2 for any other number
 abbrev pub modulus_of : ℕ → ℕ

@@ -1,9 +1,10 @@
 //! What the files of a map give.
-ghost use Rattle.std.specs.Prelude.{◌≡◌};
+ghost use Rattle.std.specs.Prelude.{◌≡◌, true, IfOk};
 ghost use Rattle.cube_sets.specs.Sets.{dimensions_agree};
+ghost use Rattle.cube_sets.specs.Neighbours.{are_full};
 ghost use Rattle.loading.specs.Steps.{IsDue};
 ghost use Rattle.loading.specs.Loads.{Loads};
-ghost use Rattle.map_tools.specs.Jobs.{known, agreeing, AreMapAndSetsIn, three_files};
+ghost use Rattle.map_tools.specs.Jobs.{known, agreeing, AreAlike, AreMapAndSetsIn, three_files};
 
 use cube_maps::CubeMap;
 use faults::{Fault, Name};
@@ -47,7 +48,10 @@ fn all_of(
     x: CubeSet,
     y: CubeSet,
 ) -> Result<MapAndSets, Fault>
-    ensures { IsDue (agreeing x_name.now y_name.now map x y) result }
+    requires x { are_full x.cells ≡ true }
+    requires y { are_full y.cells ≡ true }
+    ensures due { IsDue (agreeing x_name.now y_name.now map x y) result }
+    ensures alike { IfOk result AreAlike }
 {
     if !agree(map.dimension(), x.dimension()) {
         let name = copy_of(alloc, x_name)?;
@@ -78,8 +82,9 @@ pub fn load_map_and_sets<F: Files>(
     x: &Name,
     y: &Name,
 ) -> Result<MapAndSets, Fault>
-    ensures { Loads three_files (AreMapAndSetsIn map.now x.now y.now)
+    ensures loads { Loads three_files (AreMapAndSetsIn map.now x.now y.now)
         (F.seen files.old) (F.seen files.new) result }
+    ensures alike { IfOk result AreAlike }
 {
     let first = load_map(alloc, files, map)?;
     let second = load_set(alloc, files, x, Kind::Full)?;
