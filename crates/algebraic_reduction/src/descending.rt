@@ -143,9 +143,10 @@ pub fn left_terms<const P: u16>(
     ensures others { IfOk result (λ c. IsOffSteps places.now c) }
 {
     let mut terms = Vec::new(alloc);
-    for (generator, number) in chain.terms() {
-        if place_of(places, *generator).is_none() {
-            terms.push((*generator, *number))?;
+    for index in 0..chain.len() {
+        let (generator, number) = chain.term(index);
+        if place_of(places, generator).is_none() {
+            terms.push((generator, number))?;
         }
     }
     let left = Chain::from_terms(alloc, field, &terms)?;

@@ -20,8 +20,9 @@ fn name_row<const P: u16>(
     ensures named { OnOk result ((g : ℕ) → g < length lists.new → coefficient row.now g ≢ 0
         → Names lists.new g generator) }
 {
-    for (at, _) in row.terms() {
-        let place = *at as usize;
+    for index in 0..row.len() {
+        let (at, _) = row.term(index);
+        let place = at as usize;
         if place < lists.len() {
             lists[place].push(generator)?;
         }

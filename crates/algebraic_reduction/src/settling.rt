@@ -121,8 +121,9 @@ fn make_all_due<const P: u16>(
     ensures below { OnOk result
         (ComeDueBelow count (contains nat_cmp due.old) (contains nat_cmp due.new)) }
 {
-    for (generator, _) in chain.terms() {
-        make_due(parts, names, *generator, count, due)?;
+    for place in 0..chain.len() {
+        let (generator, _) = chain.term(place);
+        make_due(parts, names, generator, count, due)?;
     }
     Ok(())
 }

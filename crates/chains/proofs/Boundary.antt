@@ -5,11 +5,11 @@ use Rattle.std.proofs.lemmas.Bool.{cases_lt}
 use Rattle.std.proofs.lemmas.List.{get_or_past, take_more, take_all, get_or_default}
 use Rattle.field_mod.specs.Sums.{total}
 use Rattle.field_mod.specs.Modular.{Same}
-use Rattle.chains.specs.Terms.{coefficient}
+use Rattle.chains.specs.Terms.{coefficient, product, IsNormalWithin}
 use Rattle.chains.specs.ChainComplex.{incidence, boundary}
 use Rattle.field_mod.proofs.Sums.{total-same, total-zero, total-add, total-single, total-beside}
 use Rattle.field_mod.proofs.Modular.{same_by, same_refl, same_trans, same-add}
-use Rattle.chains.proofs.TermLists.{coefficient-append}
+use Rattle.chains.proofs.TermLists.{coefficient-append, low-le-high}
 
 boundary-append : (bs : List (List (ℕ × ℕ))) (ts us : List (ℕ × ℕ)) (g : ℕ) → boundary bs (coefficient (ts ++ us)) g ≡ boundary bs (coefficient ts) g + boundary bs (coefficient us) g
 boundary-append bs ts us g =
@@ -69,3 +69,13 @@ scaled_more p scale i n h t old now new ts l et e en s =
 
 pub scaled_end : (p scale i n h : ℕ) (old ts : List (ℕ × ℕ)) → length ts ≤ i → Same p n (coefficient old h + scale * coefficient (take i ts) h) → Same p n (coefficient old h + scale * coefficient ts h)
 scaled_end p scale i n h old ts l s = subst (λ (xs : List (ℕ × ℕ)). Same p n (coefficient old h + scale * coefficient xs h)) (take_all i ts l) s
+
+-- the product of two chains, as a sum over generators
+pub product-total : (p low n : ℕ) (ts us : List (ℕ × ℕ)) → IsNormalWithin p low n ts → product ts us ≡ total n (λ h. coefficient ts h * coefficient us h)
+product-total p low n [] us r = sym (total-same n (λ h. 0 * coefficient us h) (λ h. 0) (λ h l. zero-mul _) ∙ total-zero n)
+product-total p low n (t ∷ ts) us r =
+    let e = product-total p (t.0 + 1) n ts us r.3 in
+    let s = total-single n t.0 t.1 (λ h. coefficient us h) (omega (arith, low-le-high p (t.0 + 1) n ts r.3)) in
+    let a = total-add n (λ h. cond (eqb t.0 h) t.1 0 * coefficient us h) (λ h. coefficient ts h * coefficient us h) in
+    let b = total-same n (λ h. (cond (eqb t.0 h) t.1 0 + coefficient ts h) * coefficient us h) (λ h. cond (eqb t.0 h) t.1 0 * coefficient us h + coefficient ts h * coefficient us h) (λ h l. omega arith) in
+    omega arith

@@ -85,7 +85,7 @@ fn the_boundary_of_a_segment_is_its_ends(rt: HostRuntime) -> Result<(), Fail> {
     let (degrees, boundaries) = complex_of(rt.alloc(), field, &numbered)?.into_parts();
     assert!(rt; degrees.as_slice() == [0, 1, 0].as_slice());
     assert!(rt; boundaries.len() == 3);
-    assert!(rt; boundaries[1].terms() == [(0, 4), (2, 1)].as_slice());
+    assert!(rt; boundaries[1].to_vec(rt.alloc())?.as_slice() == [(0, 4), (2, 1)].as_slice());
     assert!(rt; boundaries[0].is_empty() && boundaries[2].is_empty());
     Ok(())
 }

@@ -20,7 +20,13 @@ fn has<const P: u16>(alloc: Global, text: &str, generator: u32, wanted: &[(u32, 
         return false;
     };
     let complex = file.into_complex();
-    generator < complex.len() && complex.boundary(generator).terms() == wanted
+    if generator >= complex.len() {
+        return false;
+    }
+    match complex.boundary(generator).to_vec(alloc) {
+        Ok(terms) => terms.as_slice() == wanted,
+        Err(_) => false,
+    }
 }
 
 // How many generators a text has in a degree, if it is read.

@@ -5,5 +5,5 @@ use Rattle.algebraic_reduction.specs.Maps.{rows}
 use Rattle.algebraic_reduction.proofs.DueSteps.{MakingAllDue}
 use Rattle.algebraic_reduction.proofs.settling.make_all_due.Given as goal
 
-abbrev pub invariant-loop-generator : goal.invariant-loop-generator
-invariant-loop-generator g l = MakingAllDue g.row.P (length l.parts.complex.boundaries) (rows l.parts.steps.items) l.generator-items l.count (contains nat_cmp l.initial.due) (contains nat_cmp l.due) l.generator-index
+abbrev pub invariant-loop-place : goal.invariant-loop-place
+invariant-loop-place g l = MakingAllDue g.row.P (length l.parts.complex.boundaries) (rows l.parts.steps.items) l.chain l.count (contains nat_cmp l.initial.due) (contains nat_cmp l.due) l.place
