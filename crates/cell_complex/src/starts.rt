@@ -4,9 +4,9 @@ ghost use Rattle.std.specs.Prelude.{◌<◌, ◌^◌, length};
 use elem_cubes::{Cell, Corner, MAX_EMBEDDING};
 use std::alloc::{AllocError, Global};
 
-/// The box of the lower corners of some sorted cells, row by row, with the place of the first cell at each corner. Where
-/// the box has more corners than the table places, corners share them: so what it tells is where to look first, and no
-/// more is promised of it.
+/// The box of the lower corners of some sorted cells, row by row, with the place of the first cell
+/// at each corner. Where the box has more corners than the table places, corners share them: so
+/// what it tells is where to look first, and no more is promised of it.
 #[derive(Drop)]
 pub(crate) struct Starts {
     least: [i32; MAX_EMBEDDING],
@@ -59,7 +59,8 @@ impl Starts {
     }
 }
 
-// The least and the greatest coordinates of the lower corners, each 0 on an axis that the cells have not.
+// The least and the greatest coordinates of the lower corners, each 0 on an axis that the cells
+// have not.
 fn ends_of(cells: &[Cell]) -> ([i32; MAX_EMBEDDING], [i32; MAX_EMBEDDING]) {
     let mut least = [0; MAX_EMBEDDING];
     let mut greatest = [0; MAX_EMBEDDING];
