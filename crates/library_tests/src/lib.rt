@@ -1,4 +1,4 @@
-//! Tests of fields, files and sinks, refusals and reports, through public calls alone.
+//! Tests of fields, of files and sinks, and of refusals, through public calls alone.
 #![tactic(auto)]
 
 #[cfg(test)]
@@ -7,5 +7,3 @@ mod fault_tests;
 mod field_tests;
 #[cfg(test)]
 mod outside_tests;
-#[cfg(test)]
-mod report_tests;
