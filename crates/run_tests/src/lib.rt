@@ -12,6 +12,8 @@ mod homology_tests;
 #[cfg(test)]
 mod limit_tests;
 #[cfg(test)]
+mod map_tests;
+#[cfg(test)]
 mod memory_tests;
 #[cfg(test)]
 mod rows;
