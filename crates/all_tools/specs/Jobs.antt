@@ -2,7 +2,7 @@
 use Rattle.std.specs.Prelude.{ℕ, List, [], unwrap_or}
 use Rattle.command_line.specs.declared.form.ToolName.{ToolName}
 use Rattle.command_line.specs.declared.form.ToolName.TheVariants as tools
-use Rattle.command_line.specs.Words.{Request, first, second}
+use Rattle.command_line.specs.Words.{Request, first, second, third}
 use Rattle.loading.specs.Jobs.{Job, HasOneJudgement}
 use Rattle.set_tools.specs.declared.cubunion.Combination.{Combination}
 use Rattle.set_tools.specs.declared.cubunion.Combination.TheVariants.{Union, Intersection}
@@ -17,6 +17,9 @@ use Rattle.command_line.specs.Operands.{holes_named}
 use Rattle.gen_tool.specs.declared.holes.HolesJob.{HolesJob}
 use Rattle.gen_tool.specs.Jobs as gens
 use Rattle.gen_tool.proofs.Judging as of_gens
+use Rattle.map_tools.specs.declared.values_job.ValuesJob.{ValuesJob}
+use Rattle.map_tools.specs.Jobs as maps
+use Rattle.map_tools.proofs.Judging as of_maps
 use Rattle.chain_tool.specs.Jobs as chains
 use Rattle.chain_tool.proofs.Judging as of_chains
 
@@ -44,6 +47,15 @@ two_files combination r =
 abbrev pub chain_of : Request → ChainJob
 chain_of r =
     record { file = first r.operands; modulus = r.options.modulus; cycles = r.options.cycles }
+
+-- a map and two sets, which the form asks for
+abbrev pub values_of : Request → ValuesJob
+values_of r = record {
+  map = first r.operands;
+  x = unwrap_or (second r.operands) [];
+  y = unwrap_or (third r.operands) [];
+  modulus = r.options.modulus;
+}
 
 -- squares with so many holes, which the form asks for
 abbrev pub holes_of : Request → HolesJob
@@ -80,6 +92,7 @@ judged_by tools.Cubnbhd r = judged (sets.neighbours_job (x_of r)) (of_sets.neigh
 judged_by tools.Cubcells r = judged (sets.cells_job (x_of r)) (of_sets.cells_once (x_of r))
 judged_by tools.Homchain r = judged_chain (chain_of r)
 judged_by tools.Gen r = judged (gens.holes_job (holes_of r)) (of_gens.holes_once (holes_of r))
+judged_by tools.Chkmvmap r = judged (maps.values_job (values_of r)) (of_maps.values_once (values_of r))
 
 abbrev pub job_by : ToolName → Request → Job
 job_by tool r = (judged_by tool r).job

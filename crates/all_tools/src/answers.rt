@@ -1,17 +1,19 @@
 //! From a command to its answer, for whichever tool it names.
 ghost use Rattle.loading.specs.Jobs.{Answers};
-ghost use Rattle.all_tools.specs.Jobs.{job_by, pair_of, two_files, chain_of, holes_of};
+ghost use Rattle.all_tools.specs.Jobs.{job_by, pair_of, two_files, chain_of, holes_of, values_of};
 ghost use Rattle.pair_tool.specs.Jobs.{pair_job};
 ghost use Rattle.set_tools.specs.Jobs.{combination_job};
 ghost use Rattle.chain_tool.specs.Jobs.{chain_job};
 ghost use Rattle.gen_tool.specs.Jobs.{holes_job};
+ghost use Rattle.map_tools.specs.Jobs.{values_job};
 
-use crate::jobs::{chain_job, combination_job, holes_job, pair_job};
+use crate::jobs::{chain_job, combination_job, holes_job, pair_job, values_job};
 use chain_tool::homology_of_file;
 use command_line::{Command, ToolName};
 use faults::Fault;
 use gen_tool::generate;
 use loading::Answer;
+use map_tools::check_map;
 use outside::Files;
 use pair_tool::homology_of_pair;
 use set_tools::{Combination, combine};
@@ -34,6 +36,7 @@ pub fn answer_by<F: Files>(
         ToolName::Cubcells => set_tools::cells(alloc, files, command.first()),
         ToolName::Homchain => chain_answer(alloc, files, command),
         ToolName::Gen => holes_answer(alloc, files, command),
+        ToolName::Chkmvmap => values_answer(alloc, files, command),
     }
 }
 
@@ -76,4 +79,13 @@ fn holes_answer<F: Files>(alloc: Global, files: &mut F, command: &Command) -> Re
 {
     let job = holes_job(command);
     generate(alloc, files, &job)
+}
+
+// Whether the values of a map are acyclic.
+fn values_answer<F: Files>(alloc: Global, files: &mut F, command: &Command) -> Result<Answer, Fault>
+    ensures { Answers (values_job (values_of command.now))
+        (F.seen files.old) (F.seen files.new) result }
+{
+    let job = values_job(alloc, command)?;
+    check_map(alloc, files, &job)
 }

@@ -1,13 +1,14 @@
 //! Commands as the jobs of tools.
 ghost use Rattle.std.specs.Prelude.{◌≡◌, ◌≤◌, Ok};
 ghost use Rattle.loading.specs.Steps.{IsDue};
-ghost use Rattle.all_tools.specs.Jobs.{pair_of, two_files, chain_of, holes_of};
+ghost use Rattle.all_tools.specs.Jobs.{pair_of, two_files, chain_of, holes_of, values_of};
 
 use basis_reports::Modulus;
 use chain_tool::ChainJob;
 use command_line::Command;
 use faults::{Fault, Name};
 use gen_tool::HolesJob;
+use map_tools::ValuesJob;
 use pair_tool::PairJob;
 use set_tools::{Combination, CombinationJob};
 use std::alloc::Global;
@@ -68,4 +69,25 @@ pub fn holes_job(command: &Command) -> HolesJob
         set_alone: command.options().set_alone(),
         modulus: Modulus::of_table(command.options().modulus()),
     }
+}
+
+/// A map between two sets whose values are to be tested.
+pub fn values_job(alloc: Global, command: &Command) -> Result<ValuesJob, Fault>
+    ensures { IsDue (Ok (values_of command.now)) result }
+{
+    let map = command.first().copy(alloc)?;
+    let x = match command.second() {
+        Some(x) => x.copy(alloc)?,
+        None => Name::of(alloc, "")?,
+    };
+    let y = match command.third() {
+        Some(y) => y.copy(alloc)?,
+        None => Name::of(alloc, "")?,
+    };
+    Ok(ValuesJob {
+        map,
+        x,
+        y,
+        modulus: Modulus::of_table(command.options().modulus()),
+    })
 }

@@ -40,6 +40,10 @@ of_homology = Modulus ∷ Cycles ∷ []
 abbrev pub of_pairs : List Choice
 of_pairs = Modulus ∷ Cycles ∷ Stats ∷ []
 
+-- the options of the tool on the values of maps
+abbrev pub of_maps : List Choice
+of_maps = Modulus ∷ []
+
 -- the options of the generator
 abbrev pub of_generator : List Choice
 of_generator = Modulus ∷ SetAlone ∷ []
@@ -53,6 +57,7 @@ forms =
     ∷ row tools.Cubcells (codes "cubcells") 1 1 []
     ∷ row tools.Homchain (codes "homchain") 1 1 of_homology
     ∷ row tools.Gen (codes "gen") 2 2 of_generator
+    ∷ row tools.Chkmvmap (codes "chkmvmap") 3 3 of_maps
     ∷ []
 
 -- an option: its name, and whether it takes a value

@@ -93,6 +93,10 @@ second [] = None
 second (x ∷ []) = None
 second (x ∷ y ∷ ys) = Some y
 
+abbrev pub third : List (List ℕ) → Option (List ℕ)
+third [] = None
+third (x ∷ xs) = second xs
+
 -- ---- want of memory
 
 -- the result is the due one, or that memory ran out

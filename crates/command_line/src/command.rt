@@ -1,7 +1,7 @@
 //! What words ask for.
 ghost use Rattle.std.specs.Prelude.{◌≡◌, ◌≤◌, IfSome};
 ghost use Rattle.std.specs.Option.{option_map};
-ghost use Rattle.command_line.specs.Words.{request_of, first, second};
+ghost use Rattle.command_line.specs.Words.{request_of, first, second, third};
 ghost use Rattle.command_line.specs.Operands.{holes_named};
 
 use crate::arguments::Arguments;
@@ -67,6 +67,13 @@ impl Command {
         ensures { option_map (λ name. name.now) result ≡ second self.now.operands }
     {
         self.operands.get(1)
+    }
+
+    /// The third operand, where there is one.
+    pub fn third(&self) -> Option<&Name>
+        ensures { option_map (λ name. name.now) result ≡ third self.now.operands }
+    {
+        self.operands.get(2)
     }
 
     /// The number of holes that the operands name, from 1 to 527, where they name one.

@@ -15,6 +15,7 @@ pub enum ToolName {
     Cubcells,
     Homchain,
     Gen,
+    Chkmvmap,
 }
 
 /// A row of the table of forms: a tool with its name, the fewest and the most operands, one at
@@ -45,6 +46,9 @@ const OF_HOMOLOGY: [Choice; 2] = [Choice::Modulus, Choice::Cycles];
 // The options of the tool on pairs of sets.
 const OF_PAIRS: [Choice; 3] = [Choice::Modulus, Choice::Cycles, Choice::Stats];
 
+// The options of the tool on the values of maps.
+const OF_MAPS: [Choice; 1] = [Choice::Modulus];
+
 // The options of the generator.
 const OF_GENERATOR: [Choice; 2] = [Choice::Modulus, Choice::SetAlone];
 
@@ -61,6 +65,7 @@ impl Form {
             "cubcells" => Some(Form::of(ToolName::Cubcells, "cubcells", 1, 1, &[])),
             "homchain" => Some(Form::of(ToolName::Homchain, "homchain", 1, 1, &OF_HOMOLOGY)),
             "gen" => Some(Form::of(ToolName::Gen, "gen", 2, 2, &OF_GENERATOR)),
+            "chkmvmap" => Some(Form::of(ToolName::Chkmvmap, "chkmvmap", 3, 3, &OF_MAPS)),
             _ => None,
         }
     }
