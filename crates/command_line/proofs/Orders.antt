@@ -5,31 +5,30 @@ use Rattle.std.specs.Option.{option_map, option_and_then}
 use Rattle.command_line.specs.declared.choice.Choice.{Choice}
 use Rattle.command_line.specs.declared.choice.Choice.TheVariants.{Modulus, Cycles, Stats, SetAlone}
 use Rattle.command_line.specs.declared.choice.Setting.{Setting}
-use Rattle.command_line.specs.declared.word.Next.TheVariants.{Anything}
-use Rattle.command_line.specs.Forms.{Row, Spoken, form_named, stands_alone, same_choice, is_set, are_once, has_alone, agree, are_operands, words_read}
+use Rattle.command_line.specs.Forms.{Anything, Row, Spoken, form_named, stands_alone, same_choice, is_set, are_once, has_alone, agree, are_operands, words_read}
 use Rattle.command_line.specs.Words.{modulus_of, modulus_in, with_modulus, with_options, chosen_of, request_of, formed, command_with, command_of}
 use Rattle.command_line.specs.Laws.{AreWhole}
 use Rattle.command_line.proofs.Wholes.{onto, behind_whole}
 
 -- lists of options that say the same
-record SaySame (a b : List Setting) : Type 0 where
-  set : (choice : Choice) → is_set choice a ≡ is_set choice b
-  once : are_once a ≡ are_once b
-  alone : has_alone a ≡ has_alone b
-  many : length a ≡ length b
-  modulus : are_once a ≡ true → modulus_in a ≡ modulus_in b
+pub record SaySame (a b : List Setting) : Type 0 where
+  pub set : (choice : Choice) → is_set choice a ≡ is_set choice b
+  pub once : are_once a ≡ are_once b
+  pub alone : has_alone a ≡ has_alone b
+  pub many : length a ≡ length b
+  pub modulus : are_once a ≡ true → modulus_in a ≡ modulus_in b
 
-same_refl : (a : List Setting) → SaySame a a
+pub same_refl : (a : List Setting) → SaySame a a
 same_refl a = record { set = λ choice. refl; once = refl; alone = refl; many = refl; modulus = λ e. refl }
 
-same_trans : (a b c : List Setting) → SaySame a b → SaySame b c → SaySame a c
+pub same_trans : (a b c : List Setting) → SaySame a b → SaySame b c → SaySame a c
 same_trans a b c p q = record { set = λ choice. p.set choice ∙ q.set choice; once = p.once ∙ q.once; alone = p.alone ∙ q.alone; many = p.many ∙ q.many; modulus = λ e. p.modulus e ∙ q.modulus (sym p.once ∙ e) }
 
 and_right : (x y : Bool) → (x && y) ≡ true → y ≡ true
 and_right true y e = e
 and_right false y e = cc
 
-same_cons : (s : Setting) (a b : List Setting) → SaySame a b → SaySame (s ∷ a) (s ∷ b)
+pub same_cons : (s : Setting) (a b : List Setting) → SaySame a b → SaySame (s ∷ a) (s ∷ b)
 same_cons s a b p = record {
   set = λ choice. ap (λ x. same_choice s.choice choice || x) (p.set choice);
   once = ap (λ x. not x && are_once a) (p.set s.choice) ∙ ap (λ x. not (is_set s.choice b) && x) p.once;
@@ -77,7 +76,7 @@ modulus_swap Modulus Modulus x y m a rest e = cc
 modulus_swap Modulus d x y m a rest e = refl
 modulus_swap c d x y m a rest e = refl
 
-same_swap : (s t : Setting) (v : List Setting) → SaySame (s ∷ t ∷ v) (t ∷ s ∷ v)
+pub same_swap : (s t : Setting) (v : List Setting) → SaySame (s ∷ t ∷ v) (t ∷ s ∷ v)
 same_swap s t v = record {
   set = λ choice. or_swap (same_choice s.choice choice) (same_choice t.choice choice) (is_set choice v);
   once = once_swap (same_choice t.choice s.choice) (same_choice s.choice t.choice) (is_set s.choice v) (is_set t.choice v) (are_once v) (choice_swap t.choice s.choice);
@@ -122,7 +121,7 @@ module _ (form : Row) (o : List (List ℕ)) (a b : List Setting) (p : SaySame a 
   agree_same : agree a ≡ agree b
   agree_same = ap (λ n. nat_le n 1 || not (has_alone a)) p.many ∙ ap (λ x. nat_le (length b) 1 || not x) p.alone
 
-  request_same : request_of form (of a) ≡ request_of form (of b)
+  pub request_same : request_of form (of a) ≡ request_of form (of b)
   request_same =
       let operands : Bool = nat_le form.fewest (length o) && nat_le (length o) form.most && are_operands form.tool o in
       ap (λ x. option_and_then (chosen_of form) (cond (operands && x && are_once a) (Some (of a)) None)) agree_same ∙ fits_same (operands && agree b)

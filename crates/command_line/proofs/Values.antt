@@ -6,9 +6,7 @@ use Rattle.std.specs.List.{position_or_len}
 use Rattle.std.specs.Str.{bytes_eq}
 use Rattle.command_line.specs.declared.choice.Choice.{Choice}
 use Rattle.command_line.specs.declared.choice.Choice.TheVariants.{Modulus, Cycles, Stats, SetAlone}
-use Rattle.command_line.specs.declared.word.Next.TheVariants.{Anything}
-use Rattle.command_line.specs.Forms.{Row, Spoken, form_named, named, option_name, option_named, takes_value, is_plain, is_empty, is_equals, also, alone, valued, word_first, words_read}
-use Rattle.command_line.specs.declared.word.Said.TheVariants.{Nothing}
+use Rattle.command_line.specs.Forms.{Anything, Nothing, Row, Spoken, form_named, named, option_name, option_named, takes_value, is_plain, is_empty, is_equals, also, alone, valued, word_first, words_read}
 use Rattle.command_line.specs.Words.{request_of, formed, command_with, command_of}
 use Rattle.command_line.specs.Laws.{AreWhole}
 use Rattle.command_line.proofs.Wholes.{onto, behind_whole}

@@ -4,12 +4,7 @@ use Rattle.std.specs.Option.{option_map}
 use Rattle.std.specs.List.{list_any, position_or_len, before_first, after_first}
 use Rattle.std.specs.Prelude.{nat_lt, length}
 use Rattle.command_line.specs.declared.choice.Choice.{Choice}
-use Rattle.command_line.specs.declared.word.Next.{Next}
-use Rattle.command_line.specs.declared.word.Next.TheVariants.{Anything, ValueOf, OperandsAlone}
-use Rattle.command_line.specs.declared.word.Said.{Said}
-use Rattle.command_line.specs.declared.word.Said.TheVariants.{Nothing, Operand, Set}
-use Rattle.command_line.specs.declared.word.WordRead.{WordRead}
-use Rattle.command_line.specs.Forms.{Row, Spoken, nothing_spoken, also, is_plain, is_empty, is_equals, takes_value, option_named, alone, valued, option_read, word_read, word_first, words_read}
+use Rattle.command_line.specs.Forms.{Next, Anything, ValueOf, OperandsAlone, Said, Nothing, Operand, Set, WordRead, Row, Spoken, nothing_spoken, also, is_plain, is_empty, is_equals, takes_value, option_named, alone, valued, option_read, word_read, word_first, words_read}
 use Rattle.command_line.specs.Laws.{AreWhole, dashes, is_dashes}
 
 -- what was said, and then what more is said

@@ -9,11 +9,6 @@ use Rattle.command_line.specs.declared.form.ToolName.{ToolName}
 use Rattle.command_line.specs.declared.form.ToolName.TheVariants as tools
 use Rattle.command_line.specs.declared.choice.Choice.{Choice}
 use Rattle.command_line.specs.declared.choice.Choice.TheVariants.{Modulus, Cycles, Stats, SetAlone}
-use Rattle.command_line.specs.declared.word.Next.{Next}
-use Rattle.command_line.specs.declared.word.Next.TheVariants.{Anything, ValueOf, OperandsAlone}
-use Rattle.command_line.specs.declared.word.Said.{Said}
-use Rattle.command_line.specs.declared.word.Said.TheVariants.{Nothing, Operand, Set}
-use Rattle.command_line.specs.declared.word.WordRead.{WordRead}
 use Rattle.command_line.specs.declared.choice.Setting.{Setting}
 use Rattle.command_line.specs.Operands.{holes_named}
 pub use Rattle.command_line.specs.Operands.{named}
@@ -85,6 +80,25 @@ abbrev pub option_named : Row → List ℕ → Option Choice
 option_named form word = named option_name form.options word
 
 -- ---- what one word says
+
+-- what may come next among the words after a tool's name: an operand, an option or the word that
+-- ends the options; the value of an option; an operand, since the options have ended
+pub data Next : Type 0 where
+  Anything : Next
+  ValueOf : Choice → Next
+  OperandsAlone : Next
+
+-- what a word says by itself: that the options end, or that the value of an option follows; an
+-- operand; an option, with its value where it takes one
+pub data Said : Type 0 where
+  Nothing : Said
+  Operand : List ℕ → Said
+  Set : Setting → Said
+
+-- what a word says, and what may come after it
+pub record WordRead : Type 0 where
+  pub said : Said
+  pub next : Next
 
 -- the words, as their bytes
 abbrev pub spoken : {A : Type 0} → List (String A) → List (List ℕ)

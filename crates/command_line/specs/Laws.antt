@@ -3,8 +3,7 @@ use Rattle.std.specs.Prelude.{◌≡◌, ℕ, List, [], ◌∷◌, ◌++◌, Non
 use Rattle.std.specs.List.{list_any}
 use Rattle.std.specs.Str.{bytes_eq}
 use Rattle.command_line.specs.declared.choice.Choice.{Choice}
-use Rattle.command_line.specs.declared.word.Next.TheVariants.{Anything}
-use Rattle.command_line.specs.Forms.{Row, Spoken, form_named, option_name, takes_value, is_plain, is_empty, words_read}
+use Rattle.command_line.specs.Forms.{Anything, Row, Spoken, form_named, option_name, takes_value, is_plain, is_empty, words_read}
 use Rattle.command_line.specs.Words.{command_of}
 
 -- the word that ends the options

@@ -8,8 +8,7 @@ use Rattle.command_line.specs.declared.form.ToolName.{ToolName}
 use Rattle.command_line.specs.declared.choice.Choice.{Choice}
 use Rattle.command_line.specs.declared.choice.Choice.TheVariants.{Modulus, Cycles, Stats, SetAlone}
 use Rattle.command_line.specs.declared.choice.Setting.{Setting}
-use Rattle.command_line.specs.declared.word.Next.TheVariants.{Anything}
-use Rattle.command_line.specs.Forms.{Row, Spoken, named, form_named, words_read, is_set, fitting}
+use Rattle.command_line.specs.Forms.{Anything, Row, Spoken, named, form_named, words_read, is_set, fitting}
 
 -- ---- what the options say
 

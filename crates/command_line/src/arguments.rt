@@ -1,11 +1,10 @@
 //! What all words after a tool's name say.
 ghost use Rattle.std.specs.Prelude.{◌≡◌, ◌≤◌, length, true, OnOk};
-ghost use Rattle.command_line.specs.Forms.{nothing_spoken, after, is_set, are_once, has_alone, agree, fits};
+ghost use Rattle.command_line.specs.Forms.{Operand, Set, nothing_spoken, after, is_set, are_once, has_alone, agree, fits};
 
 use crate::choice::{Choice, Setting};
 use crate::form::Form;
 use crate::operands::are_operands;
-use crate::word::Said;
 use faults::Name;
 use std::alloc::{AllocError as NoMemory, Global};
 use std::marker::Model;
@@ -36,15 +35,19 @@ impl Arguments {
         }
     }
 
-    /// What one more word says.
-    pub fn add(&mut self, said: Said) -> Result<(), NoMemory>
-        ensures { OnOk result (self.new ≡ after self.old said) }
+    /// One more operand.
+    pub fn add_operand(&mut self, operand: Name) -> Result<(), NoMemory>
+        ensures { OnOk result (self.new ≡ after self.old (Operand operand)) }
     {
-        match said {
-            Said::Nothing => {}
-            Said::Operand(name) => self.operands.push(name)?,
-            Said::Set(setting) => self.settings.push(setting)?,
-        }
+        self.operands.push(operand)?;
+        Ok(())
+    }
+
+    /// One more option.
+    pub fn add_setting(&mut self, setting: Setting) -> Result<(), NoMemory>
+        ensures { OnOk result (self.new ≡ after self.old (Set setting)) }
+    {
+        self.settings.push(setting)?;
         Ok(())
     }
 

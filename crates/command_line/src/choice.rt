@@ -1,5 +1,5 @@
 //! The options of tools.
-ghost use Rattle.std.specs.Prelude.{◌≡◌};
+ghost use Rattle.std.specs.Prelude.{◌≡◌, ◌++◌, codes};
 ghost use Rattle.command_line.specs.Forms.{option_name, takes_value, stands_alone, same_choice};
 
 use faults::Name;
@@ -34,6 +34,18 @@ impl Choice {
             Choice::Cycles => "--cycles",
             Choice::Stats => "--stats",
             Choice::SetAlone => "--set",
+        }
+    }
+
+    /// The option's name without its two dashes.
+    pub fn long_name(self) -> &'static str
+        ensures { option_name self ≡ codes "--" ++ result.now }
+    {
+        match self {
+            Choice::Modulus => "mod",
+            Choice::Cycles => "cycles",
+            Choice::Stats => "stats",
+            Choice::SetAlone => "set",
         }
     }
 

@@ -119,6 +119,13 @@ impl Form {
         self.most
     }
 
+    /// The options.
+    pub fn options(&self) -> &'static [Choice]
+        ensures { result.now ≡ self.now.options }
+    {
+        self.options
+    }
+
     /// The option of the tool that has this name.
     pub fn option_named(&self, word: &str) -> Option<Choice>
         ensures { result ≡ option_named self.now word.now }

@@ -10,7 +10,6 @@ mod laws;
 mod modulus;
 mod operands;
 mod options;
-mod word;
 
 pub use arguments::Arguments;
 pub use choice::{Choice, Setting};
@@ -20,4 +19,3 @@ pub use laws::{
     options_have_no_order, values_are_said_in_two_ways, words_behind_dashes_are_operands,
 };
 pub use options::Options;
-pub use word::{Next, Said, WordRead};

@@ -1,1 +1,3 @@
--- What the parse needs beyond the definitions of command_line: nothing.
+-- What stands for a form in `clap`, and what it finds there.
+pub mod Syntax
+pub mod Found

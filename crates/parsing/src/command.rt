@@ -1,11 +1,14 @@
 //! From words to what they ask for.
-ghost use Rattle.std.specs.Prelude.{◌≡◌};
-ghost use Rattle.command_line.specs.Forms.{spoken, words_read};
-ghost use Rattle.command_line.specs.Words.{command_of, formed, IsDue};
+ghost use Rattle.std.specs.Prelude.{◌≡◌, ◌⊎◌, Some};
+ghost use Rattle.command_line.specs.Forms.{spoken};
+ghost use Rattle.command_line.specs.Words.{command_of, command_with, IsDue};
+ghost use Rattle.parsing.specs.Syntax.{IsListed};
 
-use crate::word::{not_a_form, word_read};
-use command_line::{Arguments, Command, Form, Next};
-use faults::Fault;
+use crate::found::arguments_of;
+use crate::syntax::syntax_of;
+use clap::error::ErrorKind;
+use command_line::{Command, Form};
+use faults::{Fault, Name};
 use std::alloc::Global;
 
 /// What the words ask for, or the refusal of words that are of no form. The words are those after
@@ -16,30 +19,35 @@ pub fn command_of(alloc: Global, words: &[String]) -> Result<Command, Fault>
     let Some((name, words)) = words.split_first() else {
         return Err(Fault::NoTool);
     };
-    let Some(form) = Form::named(name.as_str()) else {
-        return Err(Fault::NoTool);
+    match Form::named(name.as_str()) {
+        Some(form) => command_by(alloc, &form, words),
+        None => Err(Fault::NoTool),
+    }
+}
+
+// What the words after a tool's name ask for.
+fn command_by(alloc: Global, form: &Form, words: &[String]) -> Result<Command, Fault>
+    requires { IsListed form.now }
+    ensures { IsDue (command_with (Some form.now) (spoken words.now)) result }
+{
+    let matches = match syntax_of(alloc, form)?.try_get_matches_from(words) {
+        Ok(matches) => matches,
+        Err(error) if error.kind() == ErrorKind::OutOfMemory => return Err(Fault::OutOfMemory),
+        Err(_) => return Err(not_a_form(alloc, form.name())),
     };
-    let arguments = words_read(alloc, &form, words)?;
-    match Command::of(&form, arguments) {
+    let arguments = arguments_of(alloc, form, &matches)?;
+    match Command::of(form, arguments) {
         Some(command) => Ok(command),
         None => Err(not_a_form(alloc, form.name())),
     }
 }
 
-// What the words after a tool's name say, however often and however many.
-fn words_read(alloc: Global, form: &Form, words: &[String]) -> Result<Arguments, Fault>
-    ensures { IsDue
-        (formed form.now (words_read form.now Next.Anything (spoken words.now))) result }
+// The refusal of words that are of no form of the tool of this name.
+fn not_a_form(alloc: Global, name: &str) -> Fault
+    ensures { (result ≡ Fault.NotAForm name.now) ⊎ (result ≡ Fault.OutOfMemory) }
 {
-    let mut arguments = Arguments::new(alloc);
-    let mut next = Next::Anything;
-    for word in words {
-        let read = word_read(alloc, form, next, word.as_str())?;
-        arguments.add(read.said)?;
-        next = read.next;
-    }
-    match next {
-        Next::ValueOf(_) => Err(not_a_form(alloc, form.name())),
-        _ => Ok(arguments),
+    match Name::of(alloc, name) {
+        Ok(tool) => Fault::NotAForm { tool },
+        Err(_) => Fault::OutOfMemory,
     }
 }
