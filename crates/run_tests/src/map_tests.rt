@@ -3,7 +3,7 @@ use crate::rows::{DONE, Row, all_answer};
 use faults::Status;
 use std::test::Fail;
 
-const FILES: [(&str, &str); 10] = [
+const FILES: [(&str, &str); 12] = [
     ("p", "(0)"),
     ("two", "(0) (1)"),
     ("apart", "(0) (5)"),
@@ -17,6 +17,8 @@ const FILES: [(&str, &str); 10] = [
     ("torn", "(0) -> (0)  (1) -> (5)"),
     ("one", "(0) -> (0)"),
     ("far", "(0) -> {(0) (7) (9)}"),
+    ("split", "(0) -> {(0) (2)}"),
+    ("three", "(0) (1) (2)"),
 ];
 
 const REFUSED: Row = Row {
@@ -24,7 +26,7 @@ const REFUSED: Row = Row {
     ..DONE
 };
 
-const ROWS: [Row; 7] = [
+const ROWS: [Row; 9] = [
     Row {
         words: &["chkmvmap", "double", "x", "y"],
         out: "acyclic values: 9\n",
@@ -48,6 +50,17 @@ const ROWS: [Row; 7] = [
     Row {
         words: &["chkmvmap", "far", "p", "two"],
         err: "error: map: (0) -> (7) leaves the range\n",
+        ..REFUSED
+    },
+    // Two pieces: their vertices differ by no boundary, as the function tells that is 1 on the second piece alone.
+    Row {
+        words: &["chkmvmap", "split", "p", "three"],
+        err: "error: map: value at [(0)(0)] is not acyclic in degree 0: cycle 1 * [(0)(0)] + 1 * [(2)(2)], cocycle 1 * [(2)(2)] + 1 * [(3)(3)]\n",
+        ..REFUSED
+    },
+    Row {
+        words: &["chkmvmap", "split", "p", "three", "--mod", "3"],
+        err: "error: map: value at [(0)(0)] is not acyclic in degree 0: cycle 2 * [(0)(0)] + 1 * [(2)(2)], cocycle 1 * [(2)(2)] + 1 * [(3)(3)]\n",
         ..REFUSED
     },
     Row {
