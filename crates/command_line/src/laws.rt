@@ -7,7 +7,6 @@ pub fn options_have_no_order()
 {}
 
 /// `--name=value` and `--name value` say the same.
-#[tactic(auto, using(crate::proofs::Values::two_ways))]
 pub fn values_are_said_in_two_ways()
     ensures { ValuesAreSaidInTwoWays }
 {}
