@@ -174,7 +174,7 @@ def cases(quick):
 # ---- runs
 
 def timed(program, words, folder):
-    """Processor time in seconds, peak memory in bytes, and what was printed. The program has one thread."""
+    """Processor time in seconds, peak memory in bytes, and the file with what was printed. The program has one thread."""
     out = folder / "out"
     with open(out, "wb") as sink:
         child = os.posix_spawn(program, [str(program), *words], os.environ,
@@ -182,20 +182,29 @@ def timed(program, words, folder):
         _, status, usage = os.wait4(child, 0)
     if status != 0:
         sys.exit(f"{' '.join(words)}: ended with wait status {status}")
-    return usage.ru_utime + usage.ru_stime, usage.ru_maxrss * 1024, out.read_text()
+    return usage.ru_utime + usage.ru_stime, usage.ru_maxrss * 1024, out
 
 
-def dimensions(text):
+# What was printed is read line by line: the peak memory of a child is told as at least that of its parent.
+
+def dimensions(path):
     """The dimensions that the group lines of a report give."""
-    groups = [line.split(" = ")[1] for line in text.splitlines() if line.startswith("H_")]
+    with open(path) as lines:
+        groups = [line.strip().split(" = ")[1] for line in lines if line.startswith("H_")]
     return [0 if group == "0" else int(group.partition("^")[2] or 1) for group in groups]
 
 
-def compare(case, text):
-    if case.dimensions is not None and dimensions(text) != case.dimensions:
-        sys.exit(f"{case.name}: {dimensions(text)} was printed, {case.dimensions} is right")
-    if case.members is not None and text.count("\n") != case.members + 1:
-        sys.exit(f"{case.name}: {text.count(chr(10)) - 1} members were printed, {case.members} is right")
+def members(path):
+    """How many lines a printed set has behind its first."""
+    with open(path) as lines:
+        return sum(1 for _ in lines) - 1
+
+
+def compare(case, path):
+    if case.dimensions is not None and dimensions(path) != case.dimensions:
+        sys.exit(f"{case.name}: {dimensions(path)} was printed, {case.dimensions} is right")
+    if case.members is not None and members(path) != case.members:
+        sys.exit(f"{case.name}: {members(path)} members were printed, {case.members} is right")
 
 
 def write_input(path, maker: Callable, *arguments):
