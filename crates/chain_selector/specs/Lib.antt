@@ -1,0 +1,4 @@
+pub mod Selections
+pub mod Renumbered
+pub mod Right
+pub mod Laws
