@@ -1,8 +1,9 @@
 -- The value at a cell, as a list of cells of the range.
-use Rattle.std.proofs.Common.{◌≡◌, ◌≢◌, ℕ, suc, ◌<◌, ◌≤◌, refl, sym, ap, ◌∙◌, subst, arith, ⊎_elim, List, [], ◌∷◌, length, filter, cond, Bool, true, false}
+use Rattle.std.proofs.Common.{◌≡◌, ◌≢◌, ℕ, suc, ◌+◌, ◌<◌, ◌≤◌, refl, sym, ap, ◌∙◌, subst, arith, ⊎_elim, List, [], ◌∷◌, length, filter, cond, Bool, true, false}
 use mathlib.Core.Path.{fun_ext}
 use Rattle.std.specs.List.{Contains, list_all}
 use Rattle.std.specs.Cmp.{both_ways}
+use Rattle.std.proofs.lemmas.Bool.{cases_lt}
 use Rattle.std.proofs.lemmas.List.{get_or_default}
 use Rattle.std.proofs.lemmas.List.Elements.{Contains-get_or}
 use Rattle.elem_cubes.specs.Cells.{Factor, dimension_of, is_file_factor}
@@ -37,6 +38,13 @@ some_vertex V closed some none =
   where
     place_of : (V : List (List Factor)) (q : List Factor) → Contains V q → (i : ℕ) × (i < length V) × (cell_at V i ≡ q)
     place_of V q w = (w.0, w.1, get_or_default V w.0 [] q w.1 ∙ w.2)
+
+-- the first cells are no vertices, and one more is none
+pub no_vertex_more : (V : List (List Factor)) (n d : ℕ) (q : List Factor) → ((k : ℕ) → k < n → dimension_of (cell_at V k) ≢ 0) → q ≡ cell_at V n → d ≡ dimension_of q → d ≢ 0 → (k : ℕ) → k < n + 1 → dimension_of (cell_at V k) ≢ 0
+no_vertex_more V n d q before at e none k l z = ⊎_elim
+    (λ lt. before k lt z)
+    (λ ge. let m : k ≡ n = omega arith in none (e ∙ ap dimension_of (at ∙ ap (cell_at V) (sym m)) ∙ z))
+    (cases_lt k n)
 
 pub not_empty : (V : List (List Factor)) → V ≢ [] → 0 < length V
 not_empty [] n = absurd (n refl)

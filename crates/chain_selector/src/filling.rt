@@ -63,5 +63,6 @@ pub(crate) fn homotopy_of_chain<const P: u16>(
         let (cell, number) = chain.term(place);
         push_scaled(field, number, contraction.homotopy(cell), &mut terms)?;
     }
-    Chain::from_terms(alloc, field, &terms)
+    let sum = Chain::from_terms(alloc, field, &terms)?;
+    Ok(sum)
 }

@@ -148,7 +148,8 @@ impl<const P: u16> Selector<P> {
                 None => unreachable!(),
             }
         }
-        Chain::from_terms(self.alloc, field, &terms)
+        let sum = Chain::from_terms(self.alloc, field, &terms)?;
+        Ok(sum)
     }
 
     // Sees to it that the cells of a chain have kept images.
@@ -272,7 +273,8 @@ impl<const P: u16> Selector<P> {
         let _dimension = self.dimension();
         let place = first_vertex(value);
         let vertex = Chain::from_terms(self.alloc, field, &[(place, 1)])?;
-        renumbered(self.alloc, field, &vertex, value, self.range_cells())
+        let image = renumbered(self.alloc, field, &vertex, value, self.range_cells())?;
+        Ok(image)
     }
 
     // A right image of a cell of higher dimension: what a contraction of its value makes of the
@@ -296,7 +298,8 @@ impl<const P: u16> Selector<P> {
         let cycle = renumbered(self.alloc, field, &around, self.range_cells(), value)?;
         let contraction = contracted(self.alloc, field, value)?;
         let filling = homotopy_of_chain(self.alloc, field, &contraction, &cycle)?;
-        renumbered(self.alloc, field, &filling, value, self.range_cells())
+        let image = renumbered(self.alloc, field, &filling, value, self.range_cells())?;
+        Ok(image)
     }
 }
 
