@@ -4,8 +4,8 @@ use Rattle.std.proofs.lemmas.Bool.{true≢false, cases_Bool, cases_lt}
 use native.Mathlib.Nat.{mod-mod}
 use Rattle.field_mod.specs.Sums.{total}
 use Rattle.field_mod.specs.Modular.{Same, NonZero}
-use Rattle.field_mod.proofs.Sums.{total_same}
-use Rattle.field_mod.proofs.Modular.{same_refl, same_sym, same_trans, same-mul}
+use Rattle.field_mod.proofs.Sums.{total_same, total_none}
+use Rattle.field_mod.proofs.Modular.{same_refl, same_sym, same_trans, same-scale, same-mul, decide_zero}
 use Rattle.elem_cubes.specs.Cells.{Factor, dimension_of}
 use Rattle.elem_cubes.specs.Boundary.{boundary_at, boundary_coefficient}
 use Rattle.elem_cubes.specs.Laws.{cell_at}
@@ -39,6 +39,21 @@ use Rattle.chain_selector.proofs.OtherNumbers as numbered
 use Rattle.chain_selector.proofs.Summing.{number_is}
 use Rattle.chain_selector.proofs.Cycles.{filling, filling_chain, filling_fills}
 use Rattle.chain_selector.proofs.Values.{cell_list, same_test, same_tests, in_range}
+
+-- what a contraction makes of a chain of places names no place past the list
+pub filling_past : (p : ℕ) (V : List (List Factor)) (con : Contracted) (cyc fl : List (ℕ × ℕ)) → IsContracted p V con → ((h : ℕ) → coefficient fl h ≡ boundary con.homotopies (coefficient cyc) h % p) → (g : ℕ) → length V ≤ g → coefficient fl g ≡ 0
+filling_past p V con cyc fl ct f g past =
+    let none : Same p (boundary con.homotopies (coefficient cyc) g) 0 = total_none p (length con.homotopies) (λ m. coefficient cyc m * nth_chain con.homotopies m g) (λ m l. ⊎_elim
+    (λ z. same_trans (same-scale (coefficient cyc m) z) (exact p (times_none (coefficient cyc m))))
+    (λ nz. absurd (let r = ct.contracts.raises m g (omega (arith, l, ct.count)) nz in omega (arith, r.0)))
+    (decide_zero p (nth_chain con.homotopies m g))) in
+    f g ∙ none.same ∙ none_of p
+  where
+    times_none : (n : ℕ) → n * 0 ≡ 0
+    times_none n = omega arith
+
+    none_of : (q : ℕ) → 0 % q ≡ 0
+    none_of q = omega arith
 
 module _ (p : ℕ) (s : Selection) (sel : IsSelection p s) (one : 1 ≤ p) (q : List Factor) (at : is_cell_of s.carrying.domain q ≡ true) (V : List (List Factor)) (v : IsValueAt s.carrying.map s.carrying.domain q V) where
   abbrev ds : List (List Factor)
@@ -136,6 +151,7 @@ module _ (p : ℕ) (s : Selection) (sel : IsSelection p s) (one : 1 ≤ p) (q : 
         (total_same p (length V) (λ m. coefficient cyc m * nth_chain con.homotopies m h) (λ m. w (cell_at V m) * nth_chain con.homotopies m h) (λ m l. same-mul (cycle_at bd im cyc b i r m l) (same_refl p (nth_chain con.homotopies m h)))))
 
     pub right_filling : (bd im cyc fl ts : List (ℕ × ℕ)) → IsBoundaryAmong p ds q bd → IsImageOf p s bd im → IsRenumbered p rs V im cyc → ((h : ℕ) → coefficient fl h ≡ boundary con.homotopies (coefficient cyc) h % p) → IsRenumbered p V rs fl ts → IsRightImage p s q ts
+    unfolding null_w
     right_filling bd im cyc fl ts b i r f t = record {
       within = t.within;
       chain = record {

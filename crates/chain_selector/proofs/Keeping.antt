@@ -19,6 +19,7 @@ use Rattle.acyclic_values.specs.CarriedMaps.{IsCarriedAt}
 use Rattle.acyclic_values.proofs.Sums.{face_of_nonzero}
 use Rattle.acyclic_values.proofs.Cells.{cells_listing}
 use Rattle.acyclic_values.proofs.Values.{values_carry}
+use Rattle.acyclic_values.proofs.Carrying.{IsCarrying}
 use Rattle.acyclic_values.proofs.Existence.{made}
 use Rattle.map_checks.specs.Carriers.{Carrying, IsCarrier}
 use Rattle.chain_selector.specs.Selections.{Selection, IsSelection, Extends, domain_cells, range_cells, is_kept, kept_terms, kept_image, is_some, terms_or_none}
@@ -111,6 +112,7 @@ module _ (p : ℕ) (s : Selection) (sel : IsSelection p s) (one : 1 ≤ p) (q : 
   abbrev V : List Factor → List Factor → Bool
   V = in_value s.carrying.map s.carrying.domain
 
+  carried : IsCarrying p (is_cell_of s.carrying.domain) (is_cell_of s.carrying.range) ds (range_cells s) V
   carried = values_carry p s.carrying.map s.carrying.domain s.carrying.range sel.carrier.acyclic
 
   right_here : IsCarriedAt p ds (range_cells s) (V q) (kept_image t) q

@@ -13,6 +13,7 @@ use Rattle.elem_cubes.specs.Laws.{cell_at}
 use Rattle.elem_cubes.proofs.Modular.{exact}
 use Rattle.elem_cubes.proofs.Members.{In, In-from, from-In}
 use Rattle.elem_cubes.proofs.Listing.{closures_are_faces}
+use Rattle.algebraic_reduction.proofs.Residues.{same_zero}
 use Rattle.chains.specs.Terms.{coefficient, IsNormal}
 use Rattle.chains.proofs.TermLists.{named_at, number_at}
 use Rattle.cube_sets.specs.Closures.{cells_of}
@@ -73,7 +74,7 @@ settled_end s q dimension left e low so_far r f l = ⊎_elim
 
 -- a number from 1 to p - 1 is not 0 modulo p
 not_zero : (p a : ℕ) → 0 < a → a < p → Same p a 0 → ⊥
-not_zero p a positive below z = let e = z.same in omega arith
+not_zero p a positive below z = let e = same_zero p a below z in omega arith
 
 -- the generator of a term has a coefficient
 term_not_zero : (p : ℕ) (bd : List (ℕ × ℕ)) (k : ℕ) → IsNormal p bd → k < length bd → Same p (coefficient bd (get_or bd k (0, 0)).0) 0 → ⊥

@@ -14,7 +14,7 @@ if_both p cells q ts (Err e) normal sum both = tt
 
 pub loop-facet-init : goal.loop-facet-init
 loop-facet-init g c =
-    partial_none g.row.P c.args.cells.now c.args.cell.now c.into_iter-facet-iterator.result c.new-terms.result.items (omega (arith, (is_field g.row.P c.args.field.listed).above_one)) (c.into_iter-facet-iterator.ensures.into_iter_gives ∙ c.faces-facet-items.ensures) c.new-terms.ensures
+    partial_none g.row.P c.args.cells.now c.args.cell.now c.into_iter-facet-iterator.result c.new-terms.result.items (omega (arith, (is_field g.row.P c.args.field.listed).above_one)) (c.into_iter-facet-iterator.ensures.into_iter_gives ∙ c.faces-facet-items.ensures) c.new-terms.ensures.items
 
 pub push_facet-requires : goal.push_facet-requires
 push_facet-requires g c = ((omega arith), (first_signs g.row.P c.args.cells.now c.args.cell.now c.loop-facet.facet-iterator c.next.new.self c.in-Some.facet.0 c.in-Some.facet.1 c.loop-facet.terms.items c.loop-facet.invariant c.in-Some.ensures.steps).0)
