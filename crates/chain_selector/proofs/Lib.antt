@@ -8,3 +8,4 @@ pub mod Fillings
 pub mod Vertices
 pub mod Keeping
 pub mod Settling
+pub mod Reading

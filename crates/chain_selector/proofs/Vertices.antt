@@ -31,6 +31,13 @@ use Rattle.chain_selector.proofs.OtherNumbers.{by_cell-at, by_cell-past, at_numb
 use Rattle.chain_selector.proofs.Values.{cell_list, same_test, in_range}
 use Rattle.chain_selector.proofs.Fillings.{renumbered_same, by_cell_same}
 
+-- the chain of one place names no place past the list
+pub vertex_past : (p i n : ℕ) (vt : List (ℕ × ℕ)) → i < n → ((g : ℕ) → coefficient vt g ≡ coefficient ((i, 1) ∷ []) g % p) → (g : ℕ) → n ≤ g → coefficient vt g ≡ 0
+vertex_past p i n vt l e g past = e g ∙ ap (λ b. (cond b 1 0 + 0) % p) (ne_eqb i g (λ q. absurd (omega (arith, q, l, past)))) ∙ none_of p
+  where
+    none_of : (m : ℕ) → (0 + 0) % m ≡ 0
+    none_of m = omega arith
+
 module _ (p : ℕ) (s : Selection) (sel : IsSelection p s) (one : 1 ≤ p) (q : List Factor) (at : is_cell_of s.carrying.domain q ≡ true) (V : List (List Factor)) (v : IsValueAt s.carrying.map s.carrying.domain q V) where
   abbrev ds : List (List Factor)
   ds = domain_cells s

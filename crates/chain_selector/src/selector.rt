@@ -115,6 +115,8 @@ impl<const P: u16> Selector<P> {
         requires { is_kept self.now cell.now ≡ true }
         ensures { IfOk result (λ image. image ≡ kept_terms self.now cell.now) }
     {
+        // Its clauses hand out what a selector keeps.
+        let _dimension = self.dimension();
         let Some(number) = self.domain_cells().number(cell) else {
             unreachable!();
         };
@@ -128,10 +130,12 @@ impl<const P: u16> Selector<P> {
     fn keeps(&self, cell: &Cell) -> bool
         ensures { result ≡ is_kept self.now cell.now }
     {
-        match self.domain_cells().number(cell) {
-            Some(number) => self.images[number as usize].is_some(),
-            None => false,
-        }
+        // Its clauses hand out what a selector keeps.
+        let _dimension = self.dimension();
+        let Some(number) = self.domain_cells().number(cell) else {
+            return false;
+        };
+        self.images[number as usize].is_some()
     }
 
     // The sum of the kept images of the cells of a chain, each times its coefficient.
@@ -203,26 +207,27 @@ impl<const P: u16> Selector<P> {
         // Its clauses hand out what a selector keeps.
         let _dimension = self.dimension();
         for face in cell.closure() {
-            if face.dim() == dimension {
-                if !self.keeps(&face) {
-                    self.keep(field, &face)?;
-                }
+            if face.dim() != dimension {
+                continue;
             }
+            self.keep(field, &face)?;
         }
         Ok(())
     }
 
-    // Keeps an image of a cell whose lower faces have kept ones.
+    // Sees to it that a cell whose lower faces have kept images has one.
     fn keep(&mut self, field: Field<P>, cell: &Cell) -> Result<(), NoMemory>
         requires domain { IsTrue (is_cell_of self.old.carrying.domain cell.now) }
         requires faces { HasKeptFaces self.old cell.now (dimension_of cell.now) }
-        requires new { is_kept self.old cell.now ≡ false }
         ensures extends { Extends self.old self.new }
         ensures kept { OnOk result (is_kept self.new cell.now ≡ true) }
         ensures selection { IsSelection P self.new }
     {
         // Its clauses hand out what a selector keeps.
         let _dimension = self.dimension();
+        if self.keeps(cell) {
+            return Ok(());
+        }
         let image = self.made(field, cell)?;
         let Some(number) = self.domain_cells().number(cell) else {
             unreachable!();
@@ -312,7 +317,7 @@ fn no_images<const P: u16>(
     ensures none { IfOk result (λ images. (i : ℕ) → slice_index_or images.items i None ≡ None) }
 {
     let mut images = Vec::with_capacity(alloc, count as usize)?;
-    for _ in 0..count {
+    for _index in 0..count {
         images.push(None)?;
     }
     Ok(images)
