@@ -34,7 +34,7 @@ pub kept_listed : (p : ℕ) (s : Selection) (q : List Factor) → IsSelection p 
 kept_listed p s q sel kept = ((cells_listing s.carrying.domain).members q).0 (sel.within q kept)
 
 pub not_kept : (p : ℕ) (s : Selection) (q : List Factor) → IsSelection p s → (Contains (domain_cells s) q → ⊥) → is_kept s q ≡ false
-not_kept p s q sel no = ⊎_elim (λ e. absurd (no (kept_listed p s q sel e))) (λ e. e) (cases_Bool (is_kept s q))
+not_kept p s q sel absent = ⊎_elim (λ e. absurd (absent (kept_listed p s q sel e))) (λ e. e) (cases_Bool (is_kept s q))
 
 -- the cells of the domain are those that are listed
 pub domain_listed : (s : Selection) (q : List Factor) → is_cell_of s.carrying.domain q ≡ true → Contains (domain_cells s) q

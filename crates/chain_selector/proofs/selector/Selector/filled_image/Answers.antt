@@ -10,26 +10,20 @@ use Rattle.chain_selector.proofs.Settling.{facets_are_kept, facets_in_domain}
 use Rattle.chain_selector.proofs.Fillings.{right_filling, filling_past}
 use Rattle.chain_selector.proofs.selector.Selector.filled_image.Goals as goal
 
-pub sum_of_images-requires-clause-domain : goal.sum_of_images-requires-clause-domain
-sum_of_images-requires-clause-domain g c = facets_in_domain g.row.P c.args.self.now c.args.cell.now c.in_ok-boundary.boundary (subst (λ (cells : List (List Factor)). IsBoundaryAmong g.row.P cells c.args.cell.now c.in_ok-boundary.boundary) c.domain_cells.ensures c.in_ok-boundary.ensures)
-
-pub sum_of_images-requires-clause-kept : goal.sum_of_images-requires-clause-kept
-sum_of_images-requires-clause-kept g c = facets_are_kept g.row.P c.args.self.now c.args.cell.now c.in_ok-boundary.boundary c.requires.faces (subst (λ (cells : List (List Factor)). IsBoundaryAmong g.row.P cells c.args.cell.now c.in_ok-boundary.boundary) c.domain_cells.ensures c.in_ok-boundary.ensures)
+pub sum_of_images-requires : goal.sum_of_images-requires
+sum_of_images-requires g c = ((omega arith), ((omega arith), (facets_in_domain g.row.P c.args.self.now c.args.cell.now c.in_ok-boundary.boundary (subst (λ (cells : List (List Factor)). IsBoundaryAmong g.row.P cells c.args.cell.now c.in_ok-boundary.boundary) c.domain_cells.ensures c.in_ok-boundary.ensures), facets_are_kept g.row.P c.args.self.now c.args.cell.now c.in_ok-boundary.boundary c.requires.faces (subst (λ (cells : List (List Factor)). IsBoundaryAmong g.row.P cells c.args.cell.now c.in_ok-boundary.boundary) c.domain_cells.ensures c.in_ok-boundary.ensures))))
 
 pub renumbered-requires : goal.renumbered-requires
-renumbered-requires g c = ((omega arith), λ h past. c.in_ok-around.ensures.within h (omega (arith, past, ap length c.range_cells.ensures)))
+renumbered-requires g c = ((omega arith), ((omega arith), λ h past. c.in_ok-around.ensures.within h (omega (arith, past, ap length c.range_cells.ensures))))
 
-pub contracted-requires-clause-acyclic : goal.contracted-requires-clause-acyclic
-contracted-requires-clause-acyclic g c = acyclic_value g.row.P c.args.self.now.carrying c.dimension-dimension.ensures.selection.carrier c.args.cell.now c.requires.domain c.args.value.now c.requires.value
-
-pub contracted-requires-clause-closed : goal.contracted-requires-clause-closed
-contracted-requires-clause-closed g c = closed_value g.row.P c.args.self.now.carrying c.dimension-dimension.ensures.selection.carrier c.args.cell.now c.requires.domain c.args.value.now c.requires.value
+pub contracted-requires : goal.contracted-requires
+contracted-requires g c = ((omega arith), (acyclic_value g.row.P c.args.self.now.carrying c.dimension-dimension.ensures.selection.carrier c.args.cell.now c.requires.domain c.args.value.now c.requires.value, closed_value g.row.P c.args.self.now.carrying c.dimension-dimension.ensures.selection.carrier c.args.cell.now c.requires.domain c.args.value.now c.requires.value))
 
 pub homotopy_of_chain-requires : goal.homotopy_of_chain-requires
-homotopy_of_chain-requires g c = ((omega arith), λ h past. c.in_ok-cycle.ensures.within h (omega (arith, past, c.in_ok-contraction.ensures.count)))
+homotopy_of_chain-requires g c = ((omega arith), ((omega arith), ((omega arith), λ h past. c.in_ok-cycle.ensures.within h (omega (arith, past, c.in_ok-contraction.ensures.count)))))
 
 pub renumbered-requires-2 : goal.renumbered-requires-2
-renumbered-requires-2 g c = ((omega arith), filling_past g.row.P c.args.value.now c.in_ok-contraction.contraction c.in_ok-cycle.cycle c.in_ok-filling.filling c.in_ok-contraction.ensures c.in_ok-filling.ensures)
+renumbered-requires-2 g c = ((omega arith), ((omega arith), filling_past g.row.P c.args.value.now c.in_ok-contraction.contraction c.in_ok-cycle.cycle c.in_ok-filling.filling c.in_ok-contraction.ensures c.in_ok-filling.ensures))
 
 pub returns : goal.returns
 returns g c =

@@ -20,8 +20,9 @@ unreachable-requires g c = false≢true (c.in_default.ensures.found.1 (subst (λ
 
 pub index_mut-requires : goal.index_mut-requires
 index_mut-requires g c =
-    image_inside g.row.P c.args.self.now c.self.inside.images.items c.in-Some.number c.dimension-dimension.ensures.selection (ap (λ (v : Selection). v.images) c.self.view_is)
-    (subst (λ (cells : List (List Factor)). c.in-Some.number < length cells) c.domain_cells.ensures (slice_get_within c.domain_cells.result.now c.in-Some.number c.args.cell.now c.in-Some.ensures.place))
+    let l = image_inside g.row.P c.args.self.now c.self.inside.images.items c.in-Some.number c.dimension-dimension.ensures.selection (ap (λ (v : Selection). v.images) c.self.view_is)
+    (subst (λ (cells : List (List Factor)). c.in-Some.number < length cells) c.domain_cells.ensures (slice_get_within c.domain_cells.result.now c.in-Some.number c.args.cell.now c.in-Some.ensures.place)) in
+    omega (arith, l, c.self.inside.images.ok.0)
 
 pub invariant_of-self : goal.invariant_of-self
 invariant_of-self g c = one_more g.row.P c.args.self.now c.dimension-dimension.ensures.selection (omega (arith, two_le g.row.P c.args.field.listed)) c.args.cell.now c.requires.domain c.requires.faces (sym c.keeps.ensures ∙ c.if-keeps.false) c.in_ok-image.image c.in_ok-image.ensures

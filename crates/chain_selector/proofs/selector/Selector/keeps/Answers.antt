@@ -12,7 +12,9 @@ pub returns-in_default : goal.returns-in_default
 returns-in_default g c = sym (not_kept g.row.P c.args.self.now c.args.cell.now c.dimension-dimension.ensures.selection (λ w. false≢true (c.in_default.ensures.found.1 (subst (λ (cells : List (List Factor)). Contains cells c.args.cell.now) (sym c.domain_cells.ensures) (w)))))
 
 pub index-requires : goal.index-requires
-index-requires g c = image_inside g.row.P c.args.self.now c.self.inside.images.items c.in-Some.number c.dimension-dimension.ensures.selection (ap (λ (v : Selection). v.images) c.self.view_is) (subst (λ (cells : List (List Factor)). c.in-Some.number < length cells) c.domain_cells.ensures (slice_get_within c.domain_cells.result.now c.in-Some.number c.args.cell.now c.in-Some.ensures.place))
+index-requires g c =
+    let l = image_inside g.row.P c.args.self.now c.self.inside.images.items c.in-Some.number c.dimension-dimension.ensures.selection (ap (λ (v : Selection). v.images) c.self.view_is) (subst (λ (cells : List (List Factor)). c.in-Some.number < length cells) c.domain_cells.ensures (slice_get_within c.domain_cells.result.now c.in-Some.number c.args.cell.now c.in-Some.ensures.place)) in
+    omega (arith, l, c.self.inside.images.ok.0)
 
 pub returns : goal.returns
 returns g c =

@@ -12,7 +12,9 @@ pub unreachable-requires : goal.unreachable-requires
 unreachable-requires g c = false≢true (c.in_default.ensures.found.1 (subst (λ (cells : List (List Factor)). Contains cells c.args.cell.now) (sym c.domain_cells.ensures) (kept_listed g.row.P c.args.self.now c.args.cell.now c.dimension-dimension.ensures.selection c.requires)))
 
 pub index-requires : goal.index-requires
-index-requires g c = image_inside g.row.P c.args.self.now c.self.inside.images.items c.in-Some.number c.dimension-dimension.ensures.selection (ap (λ (v : Selection). v.images) c.self.view_is) (subst (λ (cells : List (List Factor)). c.in-Some.number < length cells) c.domain_cells.ensures (slice_get_within c.domain_cells.result.now c.in-Some.number c.args.cell.now c.in-Some.ensures.place))
+index-requires g c =
+    let l = image_inside g.row.P c.args.self.now c.self.inside.images.items c.in-Some.number c.dimension-dimension.ensures.selection (ap (λ (v : Selection). v.images) c.self.view_is) (subst (λ (cells : List (List Factor)). c.in-Some.number < length cells) c.domain_cells.ensures (slice_get_within c.domain_cells.result.now c.in-Some.number c.args.cell.now c.in-Some.ensures.place)) in
+    omega (arith, l, c.self.inside.images.ok.0)
 
 pub unreachable-requires-2 : goal.unreachable-requires-2
 unreachable-requires-2 g c =
@@ -26,5 +28,5 @@ returns g c =
     let e = terms_as c.args.self.now c.self.inside.images.items (ap (λ (v : Selection). v.images) c.self.view_is) c.args.cell.now c.in-Some.number c.index.result.now
     (subst (λ (cells : List (List Factor)). c.in-Some.number ≡ number_of cells c.args.cell.now) c.domain_cells.ensures c.in-Some.ensures.number)
     (image_inside g.row.P c.args.self.now c.self.inside.images.items c.in-Some.number c.dimension-dimension.ensures.selection (ap (λ (v : Selection). v.images) c.self.view_is) (subst (λ (cells : List (List Factor)). c.in-Some.number < length cells) c.domain_cells.ensures (slice_get_within c.domain_cells.result.now c.in-Some.number c.args.cell.now c.in-Some.ensures.place)))
-    c.index.ensures c.in-Some-index.image.now c.in-Some-index.is in
+    c.index.ensures c.in-Some-index.image c.in-Some-index.is in
     subst (λ (ts : List (ℕ × ℕ)). IfOk c.copy.result (λ image. image ≡ ts)) e c.copy.ensures

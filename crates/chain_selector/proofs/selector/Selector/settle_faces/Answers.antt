@@ -19,15 +19,18 @@ loop-face-preserved-then-dim-dimension g c = record {
       (λ e. absurd (c.if-dim-dimension.true (c.dim.ensures.dimension ∙ e)));
 }
 
-pub keep-requires-clause-domain : goal.keep-requires-clause-domain
-keep-requires-clause-domain g c =
+pub keep-requires : goal.keep-requires
+keep-requires g c =
+    let d =
     still_cell c.args.self.now c.loop-face.self c.in-Some.face c.loop-face.invariant.extends
-    (closed c.args.self.now.carrying.domain c.args.cell.now c.in-Some.face (face_next c.loop-face.self c.loop-face.self c.args.cell.now c.args.dimension c.loop-face.face-iterator c.next.new.self c.in-Some.face c.in-Some.ensures.steps c.loop-face.invariant.settled) c.requires.domain)
-
-pub keep-requires-clause-faces : goal.keep-requires-clause-faces
-keep-requires-clause-faces g c =
+    (closed c.args.self.now.carrying.domain c.args.cell.now c.in-Some.face (face_next c.loop-face.self c.loop-face.self c.args.cell.now c.args.dimension c.loop-face.face-iterator c.next.new.self c.in-Some.face c.in-Some.ensures.steps c.loop-face.invariant.settled) c.requires.domain) in
+    let f =
     lower_faces c.args.self.now c.loop-face.self c.args.cell.now c.in-Some.face c.args.dimension c.loop-face.invariant.extends c.requires.lower
-    (face_next c.loop-face.self c.loop-face.self c.args.cell.now c.args.dimension c.loop-face.face-iterator c.next.new.self c.in-Some.face c.in-Some.ensures.steps c.loop-face.invariant.settled) (omega (arith, c.if-dim-dimension.false, c.dim.ensures.dimension))
+    (face_next c.loop-face.self c.loop-face.self c.args.cell.now c.args.dimension c.loop-face.face-iterator c.next.new.self c.in-Some.face c.in-Some.ensures.steps c.loop-face.invariant.settled) (omega (arith, c.if-dim-dimension.false, c.dim.ensures.dimension)) in
+    ((omega arith), (d, f))
+
+pub returns-in_err-keep-clause-extends : goal.returns-in_err-keep-clause-extends
+returns-in_err-keep-clause-extends g c = extends_on c.args.self.now c.loop-face.self c.keep.new.self c.loop-face.invariant.extends c.keep.ensures.extends
 
 pub loop-face-preserved : goal.loop-face-preserved
 loop-face-preserved g c = record {

@@ -12,8 +12,9 @@ loop-place-init g c = λ h. products_none g.row.P (chains_of c.args.self.now) c.
 
 pub index-requires : goal.index-requires
 index-requires g c =
-    image_inside g.row.P c.args.self.now c.self.inside.images.items c.term-number.result.0 (subst (IsSelection g.row.P) c.self.view_is c.self.invariant) (ap (λ (v : Selection). v.images) c.self.view_is)
-    (term_inside g.row.P c.args.self.now (subst (IsSelection g.row.P) c.self.view_is c.self.invariant) c.args.chain.now c.loop-place.place c.term-number.result.0 c.term-number.result.1 (omega (arith, c.loop-place-test.true, c.len-place-end.ensures.count)) c.term-number.ensures.value c.requires.domain)
+    let l = image_inside g.row.P c.args.self.now c.self.inside.images.items c.term-number.result.0 (subst (IsSelection g.row.P) c.self.view_is c.self.invariant) (ap (λ (v : Selection). v.images) c.self.view_is)
+    (term_inside g.row.P c.args.self.now (subst (IsSelection g.row.P) c.self.view_is c.self.invariant) c.args.chain.now c.loop-place.place c.term-number.result.0 c.term-number.result.1 (omega (arith, c.loop-place-test.true, c.len-place-end.ensures.count)) c.term-number.ensures.value c.requires.domain) in
+    omega (arith, l, c.self.inside.images.ok.0)
 
 pub unreachable-requires : goal.unreachable-requires
 unreachable-requires g c =
@@ -23,8 +24,8 @@ unreachable-requires g c =
 pub loop-place-preserved : goal.loop-place-preserved
 loop-place-preserved g c =
     let at = term_chain g.row.P c.args.self.now (subst (IsSelection g.row.P) c.self.view_is c.self.invariant) c.args.chain.now c.loop-place.place c.term-number.result.0 c.term-number.result.1 (omega (arith, c.loop-place-test.true, c.len-place-end.ensures.count)) c.term-number.ensures.value c.requires.domain
-    c.self.inside.images.items (ap (λ (v : Selection). v.images) c.self.view_is) c.index.result.now c.index.ensures c.in-Some.image.now c.in-Some.is in
-    summed_more g.row.P (chains_of c.args.self.now) c.args.chain.now c.loop-place.place c.term-number.result.0 c.term-number.result.1 c.in-Some.image.now c.loop-place.terms.items c.push_scaled.new.terms.items
+    c.self.inside.images.items (ap (λ (v : Selection). v.images) c.self.view_is) c.index.result.now c.index.ensures c.in-Some.image c.in-Some.is in
+    summed_more g.row.P (chains_of c.args.self.now) c.args.chain.now c.loop-place.place c.term-number.result.0 c.term-number.result.1 c.in-Some.image c.loop-place.terms.items c.push_scaled.new.terms.items
     (omega (arith, c.loop-place-test.true, c.len-place-end.ensures.count)) c.term-number.ensures.value (chain_inside g.row.P c.args.self.now (subst (IsSelection g.row.P) c.self.view_is c.self.invariant) c.args.chain.now c.loop-place.place c.term-number.result.0 c.term-number.result.1 (omega (arith, c.loop-place-test.true, c.len-place-end.ensures.count)) c.term-number.ensures.value c.requires.domain) at c.loop-place.invariant c.in_ok-push_scaled.ensures
 
 pub returns : goal.returns

@@ -13,7 +13,7 @@ pub first_vertex-place-requires-clause-closed : goal.first_vertex-place-requires
 first_vertex-place-requires-clause-closed g c = closed_value g.row.P c.args.self.now.carrying c.dimension-dimension.ensures.selection.carrier c.args.cell.now c.requires.domain c.args.value.now c.requires.value
 
 pub renumbered-requires : goal.renumbered-requires
-renumbered-requires g c = ((omega arith), vertex_past g.row.P c.first_vertex-place.result (length c.args.value.now) c.in_ok-vertex.vertex c.first_vertex-place.ensures.inside c.in_ok-vertex.ensures.sum)
+renumbered-requires g c = ((omega arith), ((omega arith), vertex_past g.row.P c.first_vertex-place.result (length c.args.value.now) c.in_ok-vertex.vertex c.first_vertex-place.ensures.inside c.in_ok-vertex.ensures.sum))
 
 pub returns : goal.returns
 returns g c =
