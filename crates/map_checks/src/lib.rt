@@ -2,8 +2,11 @@
 #![tactic(auto)]
 
 mod carrier;
+mod known;
 mod map_fault;
+mod moves;
 mod sets;
+mod shape;
 mod value;
 mod values;
 

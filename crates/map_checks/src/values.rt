@@ -3,8 +3,11 @@ ghost use Rattle.std.specs.Prelude.{◌≡◌, List, true, OnOk, IfErr, IsTrue};
 ghost use Rattle.elem_cubes.specs.Cells.{Factor};
 ghost use Rattle.cube_sets.specs.Closures.{is_cell_of, cells_of};
 ghost use Rattle.map_checks.specs.Faults.{AreNamed, IsAcyclicAt, IsFaultAt, IsFirstHollow};
+ghost use Rattle.map_checks.specs.Shapes.{AreKnown};
 
+use crate::known::{is_known, nothing_known, remember};
 use crate::map_fault::MapFault;
+use crate::shape::{Shape, shape_at};
 use crate::value::value_set;
 use acyclic_values::{ValueFault, contract_value};
 use cube_maps::CubeMap;
@@ -14,7 +17,7 @@ use field_mod::Field;
 use std::alloc::Global;
 
 // Whether the value at a cell of the domain is acyclic, else a hole of it.
-fn check_value<const P: u16>(
+fn contract_at<const P: u16>(
     alloc: Global,
     field: Field<P>,
     map: &CubeMap,
@@ -41,8 +44,35 @@ fn check_value<const P: u16>(
     }
 }
 
+// The same, where shapes are known whose values are acyclic; that of the cell is one of them then.
+fn check_value<const P: u16>(
+    alloc: Global,
+    field: Field<P>,
+    map: &CubeMap,
+    domain: &CubeSet,
+    cell: &Cell,
+    known: &mut Vec<Shape>,
+) -> Result<(), MapFault<P>>
+    requires cell { IsTrue (is_cell_of domain.now.cells cell.now) }
+    requires named { AreNamed map.now.named domain.now.cells }
+    requires known { AreKnown P known.old.items }
+    ensures ok { OnOk result (IsAcyclicAt P map.now.named domain.now.cells cell.now) }
+    ensures known { OnOk result (AreKnown P known.new.items) }
+    ensures err { IfErr result (IsFaultAt P map.now.named domain.now.cells cell.now) }
+{
+    let shape = shape_at(alloc, map, domain, cell)?;
+    if is_known(known, &shape) {
+        return Ok(());
+    }
+    if let Err(fault) = contract_at(alloc, field, map, domain, cell) {
+        return Err(fault);
+    }
+    remember(known, shape);
+    Ok(())
+}
+
 /// Whether the values at all cells of the domain are acyclic, else the first that is not. What is told of a cell is a function of
-/// the cell alone.
+/// the cell alone: what is known of values before has no say in it.
 pub(crate) fn check_cells<const P: u16>(
     alloc: Global,
     field: Field<P>,
@@ -55,8 +85,9 @@ pub(crate) fn check_cells<const P: u16>(
     ensures ok { OnOk result ((s : List Factor) → is_cell_of domain.now.cells s ≡ true → IsAcyclicAt P map.now.named domain.now.cells s) }
     ensures err { IfErr result (IsFirstHollow P map.now.named domain.now.cells) }
 {
+    let mut known = nothing_known(alloc)?;
     for cell in cells {
-        if let Err(fault) = check_value(alloc, field, map, domain, cell) {
+        if let Err(fault) = check_value(alloc, field, map, domain, cell, &mut known) {
             return Err(fault);
         }
     }
