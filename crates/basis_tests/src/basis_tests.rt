@@ -1,5 +1,5 @@
 //! Bases of a segment, of three edges between two points, of an interval relative to its ends, and
-//! of the border of a square.
+//! of the border of a square, modulo 3.
 use algebraic_reduction::Log;
 use chains::{Chain, Complex};
 use cube_sets::CubeSet;
@@ -11,24 +11,28 @@ use std::test::Fail;
 
 type Terms<'a> = &'a [(u32, u16)];
 
-fn field<const P: u16>() -> Result<Field<P>, Fail> {
-    Ok(Field::get().ok_or("a modulus of the table")?)
+fn field() -> Result<Field<3>, Fail> {
+    Ok(Field::get().ok_or("3 is in the table")?)
 }
 
-/// The basis of two points, the generators 0 and 1, and so many edges from the first to the second.
-fn basis_of_edges<const P: u16>(alloc: Global, edges: u32) -> Result<Basis<P>, Fail> {
-    let field = field()?;
+/// The complex of two points, the generators 0 and 1, and so many edges from the first to the second.
+fn edges(alloc: Global, field: Field<3>, edges: u32) -> Result<Complex<3>, Fail> {
     let mut degrees = vec![in alloc; 0, 0]?;
     let mut boundaries = vec![in alloc; Chain::empty(alloc), Chain::empty(alloc)]?;
     for _edge in 0..edges {
         degrees.push(1)?;
-        let ends = [(0, P.saturating_sub(1)), (1, 1)];
-        boundaries.push(Chain::from_terms(alloc, field, &ends)?)?;
+        boundaries.push(Chain::from_terms(alloc, field, &[(0, 2), (1, 1)])?)?;
     }
     if degrees.len() != boundaries.len() || degrees.len() > 100 {
         return Err(Fail::from("few generators, a boundary each"));
     }
-    let complex = Complex::new(alloc, field, degrees, boundaries)?;
+    Ok(Complex::new(alloc, field, degrees, boundaries)?)
+}
+
+/// The basis of that complex.
+fn basis_of_edges(alloc: Global, count: u32) -> Result<Basis<3>, Fail> {
+    let field = field()?;
+    let complex = edges(alloc, field, count)?;
     let log = Log::start(alloc, complex)?.reduce_all(field)?;
     Ok(basis(alloc, field, log)?)
 }
@@ -50,12 +54,12 @@ fn set_of(alloc: Global, dimension: u8, cells: &[Cell]) -> Result<CubeSet, Fail>
 }
 
 /// The basis of a pair of sets, and the number of its relative cells.
-fn basis_of_pair<const P: u16>(
+fn basis_of_pair(
     alloc: Global,
     dimension: u8,
     x: &[Cell],
     a: &[Cell],
-) -> Result<(Basis<P>, u32), Fail> {
+) -> Result<(Basis<3>, u32), Fail> {
     let field = field()?;
     let x = set_of(alloc, dimension, x)?;
     let a = set_of(alloc, dimension, a)?;
@@ -64,179 +68,93 @@ fn basis_of_pair<const P: u16>(
     Ok((basis(alloc, field, prepared.log)?, count))
 }
 
-/// The border of a square modulo 3.
-fn basis_of_border(alloc: Global) -> Result<(Basis<3>, u32), Fail> {
-    let edges = [
-        cell(&[0, 0], 1)?,
-        cell(&[0, 0], 2)?,
-        cell(&[0, 1], 1)?,
-        cell(&[1, 0], 2)?,
-    ];
-    basis_of_pair(alloc, 2, &edges, &[])
+/// Whether there are so many classes in the degrees 0 and 1, and none in 2 and in the last one.
+fn has_dimensions(basis: &Basis<3>, first: u32, second: u32) -> bool {
+    basis.dimension(0) == first
+        && basis.dimension(1) == second
+        && basis.dimension(2) == 0
+        && basis.dimension(255) == 0
 }
 
-/// Dimensions in the degrees 0, 1, 2 and in the last one.
-fn dimensions<const P: u16>(basis: &Basis<P>) -> [u32; 4] {
-    [
-        basis.dimension(0),
-        basis.dimension(1),
-        basis.dimension(2),
-        basis.dimension(255),
-    ]
+/// Whether a chain has these terms, in this order.
+fn has_terms(chain: &Chain<3>, terms: Terms) -> bool {
+    for place in 0..chain.len() {
+        if terms.get(place) != Some(&chain.term(place)) {
+            return false;
+        }
+    }
+    chain.len() == terms.len()
 }
 
 /// Whether the first class of a degree has a cycle of these terms.
-fn has_cycle<const P: u16>(basis: &Basis<P>, degree: u8, cycle: Terms) -> bool {
-    basis.dimension(degree) > 0 && basis.cycle(degree, 0).terms() == cycle
+fn has_cycle(basis: &Basis<3>, degree: u8, cycle: Terms) -> bool {
+    basis.dimension(degree) > 0 && has_terms(basis.cycle(degree, 0), cycle)
 }
 
 /// Whether the first class of a degree has a cocycle of these terms.
-fn has_cocycle<const P: u16>(basis: &Basis<P>, degree: u8, cocycle: Terms) -> bool {
-    basis.dimension(degree) > 0 && basis.cocycle(degree, 0).terms() == cocycle
+fn has_cocycle(basis: &Basis<3>, degree: u8, cocycle: Terms) -> bool {
+    basis.dimension(degree) > 0 && has_terms(basis.cocycle(degree, 0), cocycle)
 }
 
-/// Whether the cocycle of each class of a degree is 1 on its cycle and 0 on the other cycles.
-fn are_dual<const P: u16>(field: Field<P>, basis: &Basis<P>, degree: u8) -> bool {
-    let count = basis.dimension(degree);
-    for i in 0..count {
-        for j in 0..count {
-            let value = basis.cocycle(degree, i).dot(field, basis.cycle(degree, j));
-            if value != u16::from(i == j) {
-                return false;
-            }
-        }
+/// Whether the contraction sends the ends of an edge, the generators 0 and 1, to chains whose
+/// difference is the edge, the generator 2.
+fn is_contracted(alloc: Global, field: Field<3>, basis: &Basis<3>) -> Result<bool, Fail> {
+    if basis.complex().len() < 3 {
+        return Ok(false);
     }
-    true
-}
-
-/// The chain h of the boundary of a generator.
-fn contraction_of_boundary<const P: u16>(
-    alloc: Global,
-    field: Field<P>,
-    basis: &Basis<P>,
-    generator: u32,
-) -> Result<Chain<P>, Fail> {
-    let complex = basis.complex();
-    let mut sum = Chain::empty(alloc);
-    if generator >= complex.len() {
-        return Ok(sum);
-    }
-    for (at, value) in complex.boundary(generator).terms() {
-        if *at >= complex.len() {
-            return Err(Fail::from("a boundary in the complex"));
-        }
-        let row = basis.contraction_row(alloc, field, *at)?;
-        sum.add_scaled(field, field.of_i64(i64::from(*value)), &row)?;
-    }
-    Ok(sum)
-}
-
-/// The boundary of the chain h of a generator.
-fn boundary_of_contraction<const P: u16>(
-    alloc: Global,
-    field: Field<P>,
-    basis: &Basis<P>,
-    generator: u32,
-) -> Result<Chain<P>, Fail> {
-    if generator >= basis.complex().len() {
-        return Err(Fail::from("a generator"));
-    }
-    let row = basis.contraction_row(alloc, field, generator)?;
-    Ok(basis.complex().boundary_of(alloc, field, &row)?)
-}
-
-/// The cycles of a degree times the values of their cocycles on a generator.
-fn projection<const P: u16>(
-    alloc: Global,
-    field: Field<P>,
-    basis: &Basis<P>,
-    degree: u8,
-    generator: u32,
-) -> Result<Chain<P>, Fail> {
-    let mut sum = Chain::empty(alloc);
-    for i in 0..basis.dimension(degree) {
-        let value = i64::from(basis.cocycle(degree, i).coefficient(generator));
-        sum.add_scaled(field, field.of_i64(value), basis.cycle(degree, i))?;
-    }
-    Ok(sum)
-}
-
-/// Whether each generator is the boundary of its chain h, h of its boundary, and the cycles times
-/// the values of their cocycles on it, added.
-fn is_contracted<const P: u16>(alloc: Global, basis: &Basis<P>) -> Result<bool, Fail> {
-    let field = field()?;
-    let one = field.of_i64(1);
-    let mut contracted = true;
-    for generator in 0..basis.complex().len() {
-        let degree = basis.complex().degree(generator);
-        let mut sum = projection(alloc, field, basis, degree, generator)?;
-        let part = contraction_of_boundary(alloc, field, basis, generator)?;
-        sum.add_scaled(field, one, &part)?;
-        let part = boundary_of_contraction(alloc, field, basis, generator)?;
-        sum.add_scaled(field, one, &part)?;
-        contracted = contracted && sum.terms() == [(generator, 1)].as_slice();
-    }
-    Ok(contracted)
+    let mut difference = basis.contraction_row(alloc, field, 1)?;
+    let first = basis.contraction_row(alloc, field, 0)?;
+    difference.add_scaled(field, 2, &first)?;
+    Ok(has_terms(&difference, &[(2, 1)]))
 }
 
 #[test]
-fn a_segment_has_one_class(rt: HostRuntime) -> Result<(), Fail> {
-    let basis = basis_of_edges::<5>(rt.alloc(), 1)?;
-    assert!(rt; dimensions(&basis) == [1, 0, 0, 0]);
+fn a_segment_has_one_class_and_is_contracted(rt: HostRuntime) -> Result<(), Fail> {
+    let basis = basis_of_edges(rt.alloc(), 1)?;
+    assert!(rt; has_dimensions(&basis, 1, 0));
     assert!(rt; has_cocycle(&basis, 0, &[(0, 1), (1, 1)]));
-    assert!(rt; basis.dimension(0) == 1);
-    assert_eq!(rt; basis.cycle(0, 0).len(), 1);
-    Ok(())
-}
-
-#[test]
-fn a_segment_is_contracted(rt: HostRuntime) -> Result<(), Fail> {
-    let basis = basis_of_edges::<5>(rt.alloc(), 1)?;
-    assert_eq!(rt; basis.complex().len(), 3);
-    let contracted = is_contracted(rt.alloc(), &basis)?;
+    let contracted = is_contracted(rt.alloc(), field()?, &basis)?;
     assert!(rt; contracted);
     Ok(())
+}
+
+/// The values of the cocycle of the first class of degree 1 on the cycles of two.
+fn values(field: Field<3>, basis: &Basis<3>) -> Option<(u16, u16)> {
+    if basis.dimension(1) != 2 {
+        return None;
+    }
+    let cocycle = basis.cocycle(1, 0);
+    let own = cocycle.dot(field, basis.cycle(1, 0));
+    Some((own, cocycle.dot(field, basis.cycle(1, 1))))
 }
 
 #[test]
 fn three_edges_between_two_points_have_two_loops(rt: HostRuntime) -> Result<(), Fail> {
-    let basis = basis_of_edges::<3>(rt.alloc(), 3)?;
-    assert!(rt; dimensions(&basis) == [1, 2, 0, 0]);
-    let field = field()?;
-    assert!(rt; are_dual(field, &basis, 0) && are_dual(field, &basis, 1));
-    let contracted = is_contracted(rt.alloc(), &basis)?;
-    assert!(rt; contracted);
+    let basis = basis_of_edges(rt.alloc(), 3)?;
+    assert!(rt; has_dimensions(&basis, 1, 2));
+    assert!(rt; values(field()?, &basis) == Some((1, 0)));
     Ok(())
 }
 
 #[test]
 fn an_interval_relative_to_its_ends_is_a_cycle(rt: HostRuntime) -> Result<(), Fail> {
     let ends = [cell(&[0], 0)?, cell(&[1], 0)?];
-    let (basis, count) = basis_of_pair::<2>(rt.alloc(), 1, &[cell(&[0], 1)?], &ends)?;
-    assert_eq!(rt; count, 1);
-    assert!(rt; dimensions(&basis) == [0, 1, 0, 0]);
+    let (basis, count) = basis_of_pair(rt.alloc(), 1, &[cell(&[0], 1)?], &ends)?;
+    assert!(rt; count == 1 && has_dimensions(&basis, 0, 1));
     assert!(rt; has_cycle(&basis, 1, &[(0, 1)]) && has_cocycle(&basis, 1, &[(0, 1)]));
-    assert!(rt; basis.complex().len() == 1);
-    let row = basis.contraction_row(rt.alloc(), field()?, 0)?;
-    assert!(rt; row.is_empty());
     Ok(())
 }
 
 #[test]
 fn the_border_of_a_square_has_a_loop(rt: HostRuntime) -> Result<(), Fail> {
-    let (basis, count) = basis_of_border(rt.alloc())?;
-    assert_eq!(rt; count, 8);
-    assert!(rt; dimensions(&basis) == [1, 1, 0, 0]);
+    let edges = [
+        cell(&[0, 0], 1)?,
+        cell(&[0, 0], 2)?,
+        cell(&[0, 1], 1)?,
+        cell(&[1, 0], 2)?,
+    ];
+    let (basis, count) = basis_of_pair(rt.alloc(), 2, &edges, &[])?;
+    assert!(rt; count == 8 && has_dimensions(&basis, 1, 1));
     assert!(rt; has_cycle(&basis, 1, &[(1, 1), (2, 2), (4, 1), (6, 2)]));
-    Ok(())
-}
-
-#[test]
-fn the_border_of_a_square_is_contracted(rt: HostRuntime) -> Result<(), Fail> {
-    let (basis, _) = basis_of_border(rt.alloc())?;
-    let field = field()?;
-    assert!(rt; are_dual(field, &basis, 0) && are_dual(field, &basis, 1));
-    let contracted = is_contracted(rt.alloc(), &basis)?;
-    assert!(rt; contracted);
     Ok(())
 }

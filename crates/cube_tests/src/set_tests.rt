@@ -1,195 +1,175 @@
-//! Sets of cells on small examples.
-ghost use Rattle.std.specs.Prelude.{◌≡◌, IfOk};
-
-use cube_sets::{
-    CubeSet, SetFault, are_members, cells_are_faces, limit_is_of_the_formats, neighbours_meet,
-};
-use elem_cubes::{Cell, Corner, HIGH, LOW, MAX_EMBEDDING};
+//! Sets of cells on small examples, by their texts.
+use cube_sets::{CubeSet, SetFault, cells_are_faces, limit_is_of_the_formats, neighbours_meet};
+use elem_cubes::{Cell, Corner};
+use grid_files::{CUBES, Kind, read_set, write_set};
 use std::alloc::Global;
-use std::process::Abort;
 use std::test::Fail;
 
-// The full cube with this lower corner.
-fn cube(xs: &[i32]) -> Option<Cell> {
-    Cell::full(&Corner::of(xs)?)
+// The set of a text, where it has one.
+fn set_of(alloc: Global, text: &str) -> Option<CubeSet> {
+    read_set(alloc, text.as_bytes(), Kind::Any).ok()
 }
 
-// The set of these full cubes.
-fn set_of(
-    rt: &impl Abort,
-    alloc: Global,
-    dimension: u8,
-    corners: &[&[i32]],
-) -> Result<CubeSet, Fail>
-    ensures { IfOk result (λ s. s.dimension ≡ dimension) }
-{
-    let mut cells = Vec::new(alloc);
-    for xs in corners {
-        cells.push(cube(xs).ok_or("no cube")?)?;
+// Whether a set is written so.
+fn is_written(alloc: Global, set: &CubeSet, wanted: &str) -> bool {
+    if set.len() > CUBES {
+        return false;
     }
-    let fits = 1 <= dimension && dimension as usize <= MAX_EMBEDDING && cells.len() < 100;
-    assert!(rt; fits);
-    let alike = are_members(dimension, &cells);
-    assert!(rt; alike);
-    Ok(CubeSet::of_cells(dimension, cells)?)
+    match write_set(alloc, set) {
+        Ok(text) => text.as_slice() == wanted.as_bytes(),
+        Err(_) => false,
+    }
+}
+
+// Whether the cells of the set of a text are written so, also where their own are taken once more.
+fn has_cells(alloc: Global, text: &str, wanted: &str) -> bool {
+    let Some(set) = set_of(alloc, text) else {
+        return false;
+    };
+    let Ok(faces) = set.closure(alloc) else {
+        return false;
+    };
+    let Ok(again) = faces.closure(alloc) else {
+        return false;
+    };
+    is_written(alloc, &faces, wanted) && is_written(alloc, &again, wanted)
+}
+
+#[test]
+fn cells_stand_in_order(rt: HostRuntime) {
+    for (text, wanted) in [
+        (
+            "(1) (0) (1)",
+            "dimension 1\n[(0)(0)]\n(0)\n[(1)(1)]\n(1)\n[(2)(2)]\n",
+        ),
+        (
+            "[(0 0)(0 1)] [(0 0)(1 0)] [(5 5)(5 5)]",
+            "dimension 2\n[(0 0)(0 0)]\n[(0 0)(0 1)]\n[(0 0)(1 0)]\n[(0 1)(0 1)]\n[(1 0)(1 0)]\n\
+             [(5 5)(5 5)]\n",
+        ),
+        ("dimension 3", "dimension 3\n"),
+        ("", ""),
+    ] {
+        assert!(rt; has_cells(rt.alloc(), text, wanted), "in {text:?}");
+    }
+}
+
+// How many cells the set of a text has, counted up to a limit; nothing where they are more.
+fn count_within(alloc: Global, text: &str, limit: u32) -> Option<u32> {
+    let set = set_of(alloc, text)?;
+    match set.closure_within(alloc, limit) {
+        Ok(faces) => Some(faces.len()),
+        Err(_) => None,
+    }
+}
+
+#[test]
+fn cells_are_given_up_to_their_limit(rt: HostRuntime) {
+    for (text, limit, wanted) in [
+        ("(0 0) (1 1)", 17, Some(17)),
+        ("(0 0) (1 1)", 16, None),
+        ("(0 0) (1 1)", 1, None),
+        ("", 0, Some(0)),
+    ] {
+        assert!(rt;
+            count_within(rt.alloc(), text, limit) == wanted,
+            "up to {limit}"
+        );
+    }
+}
+
+// What the set of a text has round it, where its members are full.
+fn around(alloc: Global, text: &str) -> Option<Result<CubeSet, SetFault>> {
+    let set = set_of(alloc, text)?;
+    if set.is_full() {
+        Some(set.neighbourhood(alloc))
+    } else {
+        None
+    }
+}
+
+// How many neighbours the set of a text has, or none where one leaves the range.
+fn neighbours(alloc: Global, text: &str) -> Option<u32> {
+    match around(alloc, text)? {
+        Ok(set) => Some(set.len()),
+        Err(SetFault::Coordinates) => None,
+        Err(_) => Some(u32::MAX),
+    }
+}
+
+#[test]
+fn neighbours_share_a_point_and_stay_in_range(rt: HostRuntime) {
+    for (text, wanted) in [
+        ("", Some(0)),
+        ("(0)", Some(3)),
+        ("(4 4)", Some(9)),
+        ("(0 0) (1 1)", Some(14)),
+        ("(0 0 0 0)", Some(81)),
+        ("(7 7) (1073741824 0)", None),
+        ("(7 7) (0 -1073741824)", None),
+        ("(7 7) (0 1073741824)", None),
+        ("(7 7) (-1073741824 -1073741824)", None),
+        ("(7 7) (1073741823 0)", Some(18)),
+        ("(7 7) (-1073741823 1073741823)", Some(18)),
+    ] {
+        assert!(rt; neighbours(rt.alloc(), text) == wanted, "round {text:?}");
+    }
+}
+
+// Whether the neighbours of a square are written so.
+fn has_neighbours(alloc: Global, text: &str, wanted: &str) -> bool {
+    match around(alloc, text) {
+        Some(Ok(set)) => is_written(alloc, &set, wanted),
+        _ => false,
+    }
+}
+
+#[test]
+fn a_square_has_neighbours_on_all_sides(rt: HostRuntime) {
+    let wanted = "dimension 2\n(3 3)\n(3 4)\n(3 5)\n(4 3)\n(4 4)\n(4 5)\n(5 3)\n(5 4)\n(5 5)\n";
+    assert!(rt; has_neighbours(rt.alloc(), "(4 4)", wanted));
+}
+
+// How many members the sets of two texts have in all and in common.
+fn in_all_and_in_common(alloc: Global, first: &str, second: &str) -> Option<(u32, u32)> {
+    let first = set_of(alloc, first)?;
+    let second = set_of(alloc, second)?;
+    if first.dimension() != second.dimension() || first.len() > 100 || second.len() > 100 {
+        return None;
+    }
+    let all = first.union(alloc, &second).ok()?;
+    let both = first.intersection(alloc, &second).ok()?;
+    Some((all.len(), both.len()))
+}
+
+#[test]
+fn unions_and_intersections(rt: HostRuntime) {
+    for (first, second, wanted) in [
+        ("(1) (0)", "(2)", (3, 0)),
+        ("(1) (0)", "(1) (0)", (2, 2)),
+        ("(1) (0)", "(1) [(1)(1)]", (3, 1)),
+    ] {
+        let found = in_all_and_in_common(rt.alloc(), first, second);
+        assert!(rt; found == Some(wanted), "{first:?}, {second:?}");
+    }
+}
+
+// The full cube with this lower corner.
+fn cube(xs: &[i32]) -> Result<Cell, Fail> {
+    let corner = Corner::of(xs).ok_or("no corner")?;
+    Ok(Cell::full(&corner).ok_or("no cube")?)
 }
 
 #[test]
 fn members_are_sorted_and_distinct(rt: HostRuntime) -> Result<(), Fail> {
-    let set = set_of(&rt, rt.alloc(), 1, &[&[1], &[0], &[1]])?;
-    assert_eq!(rt; set.dimension(), 1);
-    assert_eq!(rt; set.len(), 2);
-    assert!(rt; !set.is_empty());
-    let zero = cube(&[0]).ok_or("no cube")?;
-    let one = cube(&[1]).ok_or("no cube")?;
-    let two = cube(&[2]).ok_or("no cube")?;
+    let set = set_of(rt.alloc(), "(1) (0) (1)").ok_or("no set")?;
+    let (zero, one, two) = (cube(&[0])?, cube(&[1])?, cube(&[2])?);
+    assert!(rt; set.dimension() == 1 && !set.is_empty());
     assert!(rt; set.cells() == [zero, one].as_slice());
-    assert!(rt; set.holds(&zero) && set.holds(&one) && !set.holds(&two));
+    assert!(rt; set.holds(&one) && !set.holds(&two));
     let len = set.len();
     assert!(rt; len == 2);
     assert!(rt; set.cell(1) == one);
-    Ok(())
-}
-
-#[test]
-fn unions_and_intersections(rt: HostRuntime) -> Result<(), Fail> {
-    let set = set_of(&rt, rt.alloc(), 1, &[&[1], &[0], &[1]])?;
-    let other = set_of(&rt, rt.alloc(), 1, &[&[2]])?;
-    let few = set.len() < 100 && other.len() < 100;
-    assert!(rt; few);
-    let agree = set.dimension() == other.dimension();
-    assert!(rt; agree);
-    assert_eq!(rt; set.union(rt.alloc(), &other)?.len(), 3);
-    assert_eq!(rt; set.intersection(rt.alloc(), &other)?.len(), 0);
-    assert_eq!(rt; set.intersection(rt.alloc(), &set)?.len(), 2);
-    Ok(())
-}
-
-// The cell with this lower corner and these axes.
-fn cell(xs: &[i32], axes: u8) -> Result<Cell, Fail> {
-    let corner = Corner::of(xs).ok_or("no corner")?;
-    Ok(Cell::new(corner, axes).ok_or("no cell")?)
-}
-
-#[test]
-fn two_edges_in_a_row_have_five_cells(rt: HostRuntime) -> Result<(), Fail> {
-    let set = set_of(&rt, rt.alloc(), 1, &[&[1], &[0], &[1]])?;
-    let faces = set.closure(rt.alloc()).ok().ok_or("a closure")?;
-    assert_eq!(rt; faces.dimension(), 1);
-    let cells = [
-        cell(&[0], 0)?,
-        cell(&[0], 1)?,
-        cell(&[1], 0)?,
-        cell(&[1], 1)?,
-        cell(&[2], 0)?,
-    ];
-    assert!(rt; faces.cells() == cells.as_slice());
-    let again = faces.closure(rt.alloc()).ok().ok_or("a closure")?;
-    assert!(rt; again.cells() == cells.as_slice());
-    Ok(())
-}
-
-#[test]
-fn a_closure_is_given_up_to_its_limit(rt: HostRuntime) -> Result<(), Fail> {
-    let set = set_of(&rt, rt.alloc(), 2, &[&[0, 0], &[1, 1]])?;
-    let faces = set.closure_within(rt.alloc(), 17).ok().ok_or("a closure")?;
-    assert_eq!(rt; faces.len(), 17);
-    assert!(rt; set.closure_within(rt.alloc(), 16).err() == Some(SetFault::TooMany));
-    assert!(rt; set.closure_within(rt.alloc(), 1).err() == Some(SetFault::TooMany));
-    let none = CubeSet::of_cells(0, Vec::new(rt.alloc()))?;
-    let no_faces = none.closure_within(rt.alloc(), 0).ok().ok_or("a closure")?;
-    assert!(rt; no_faces.is_empty() && no_faces.dimension() == 0);
-    Ok(())
-}
-
-#[test]
-fn faces_of_cells_of_any_dimension_stand_in_order(rt: HostRuntime) -> Result<(), Fail> {
-    let mut cells = Vec::new(rt.alloc());
-    cells.push(cell(&[0, 0], 2)?)?;
-    cells.push(cell(&[0, 0], 1)?)?;
-    cells.push(cell(&[5, 5], 0)?)?;
-    let alike = are_members(2, &cells) && cells.len() < 100;
-    assert!(rt; alike);
-    let set = CubeSet::of_cells(2, cells)?;
-    let faces = set.closure(rt.alloc()).ok().ok_or("a closure")?;
-    let listed = [
-        cell(&[0, 0], 0)?,
-        cell(&[0, 0], 2)?,
-        cell(&[0, 0], 1)?,
-        cell(&[0, 1], 0)?,
-        cell(&[1, 0], 0)?,
-        cell(&[5, 5], 0)?,
-    ];
-    assert!(rt; faces.cells() == listed.as_slice());
-    Ok(())
-}
-
-// The neighbourhood of these full cubes.
-fn around(
-    rt: &impl Abort,
-    alloc: Global,
-    dimension: u8,
-    corners: &[&[i32]],
-) -> Result<Result<CubeSet, SetFault>, Fail> {
-    let set = set_of(rt, alloc, dimension, corners)?;
-    let full = set.is_full();
-    assert!(rt; full);
-    Ok(set.neighbourhood(alloc))
-}
-
-#[test]
-fn neighbours_share_a_point(rt: HostRuntime) -> Result<(), Fail> {
-    let line = around(&rt, rt.alloc(), 1, &[&[0]])?
-        .ok()
-        .ok_or("neighbours")?;
-    assert_eq!(rt; line.dimension(), 1);
-    assert!(rt; line.cells() == [cell(&[-1], 1)?, cell(&[0], 1)?, cell(&[1], 1)?].as_slice());
-    let square = around(&rt, rt.alloc(), 2, &[&[4, 4]])?
-        .ok()
-        .ok_or("neighbours")?;
-    assert_eq!(rt; square.len(), 9);
-    assert!(rt; square.holds(&cell(&[3, 5], 3)?) && square.holds(&cell(&[5, 3], 3)?));
-    assert!(rt; square.holds(&cell(&[3, 3], 3)?) && !square.holds(&cell(&[4, 6], 3)?));
-    let two = around(&rt, rt.alloc(), 2, &[&[0, 0], &[1, 1]])?
-        .ok()
-        .ok_or("neighbours")?;
-    assert_eq!(rt; two.len(), 14);
-    let solid = around(&rt, rt.alloc(), 4, &[&[0, 0, 0, 0]])?
-        .ok()
-        .ok_or("neighbours")?;
-    assert_eq!(rt; solid.len(), 81);
-    assert!(rt; solid.holds(&cell(&[-1, 1, -1, 1], 15)?));
-    Ok(())
-}
-
-#[test]
-fn neighbours_stay_in_range(rt: HostRuntime) -> Result<(), Fail> {
-    for (corner, fits) in [
-        (&[HIGH - 1, 0], false),
-        (&[0, LOW], false),
-        (&[0, HIGH - 1], false),
-        (&[LOW, LOW], false),
-        (&[HIGH - 2, 0], true),
-        (&[LOW + 1, HIGH - 2], true),
-    ] {
-        let found = around(&rt, rt.alloc(), 2, &[&[7, 7], corner])?;
-        if fits {
-            assert_eq!(rt; found.ok().ok_or("neighbours")?.len(), 18);
-        } else {
-            assert!(rt; found.err() == Some(SetFault::Coordinates));
-        }
-    }
-    let none = CubeSet::of_cells(0, Vec::new(rt.alloc()))?;
-    let full = none.is_full();
-    assert!(rt; full);
-    assert!(rt;
-        none.neighbourhood(rt.alloc())
-            .ok()
-            .ok_or("neighbours")?
-            .is_empty()
-    );
-    let set = CubeSet::of_cells(0, Vec::new(rt.alloc()))?;
-    assert_eq!(rt; set.dimension(), 0);
     Ok(())
 }
 

@@ -1,6 +1,5 @@
 //! A segment, a circle, a projective plane and a torus, reduced step by step and at once.
 ghost use Rattle.std.specs.Prelude.{◌≡◌, ◌<◌, length, IfOk};
-ghost use Rattle.algebraic_reduction.specs.Reduction.{IsUnpaired};
 
 use algebraic_reduction::Log;
 use chains::{Chain, Complex};
@@ -46,6 +45,16 @@ fn field<const P: u16>() -> Result<Field<P>, Fail> {
     Ok(Field::get().ok_or("a modulus of the table")?)
 }
 
+/// Whether a chain has these terms, in this order.
+fn has_terms<const P: u16>(chain: &Chain<P>, terms: &[(u32, u16)]) -> bool {
+    for place in 0..chain.len() {
+        if terms.get(place) != Some(&chain.term(place)) {
+            return false;
+        }
+    }
+    chain.len() == terms.len()
+}
+
 /// Degrees and boundaries of the generators of a complex that is being listed.
 #[derive(Drop)]
 struct Cells<const P: u16> {
@@ -80,15 +89,6 @@ impl<const P: u16> Cells<P> {
     }
 }
 
-/// The segment modulo 5.
-fn segment(alloc: Global) -> Result<Complex<5>, Fail> {
-    let mut cells = Cells::new(alloc);
-    cells.push(alloc, 0, &[])?;
-    cells.push(alloc, 0, &[])?;
-    cells.push(alloc, 1, &[(0, 4), (1, 1)])?;
-    cells.complex(alloc)
-}
-
 /// So many vertices and these edges, each from a vertex to another.
 fn graph<const P: u16>(
     alloc: Global,
@@ -110,7 +110,8 @@ fn circle<const P: u16>(alloc: Global) -> Result<Complex<P>, Fail> {
     graph(alloc, 4, &[(0, 1), (1, 2), (2, 3), (3, 0)])
 }
 
-/// The number of the edge between two of so many vertices, any two of which span one; the vertices are numbered first.
+/// The number of the edge between two of so many vertices, any two of which span one; the vertices
+/// are numbered first.
 fn edge(vertices: u32, low: u32, high: u32) -> Result<u32, Fail> {
     let mut number = vertices;
     for first in 0..vertices {
@@ -173,21 +174,20 @@ fn reduce_if<const P: u16>(
     Ok(log.reduce_pair(field, a, b)?)
 }
 
-/// The inclusion of a generator, where it is one of what is left.
-fn include_if<const P: u16>(
-    alloc: Global,
-    log: &Log<P>,
-    field: Field<P>,
-    count: u32,
-    generator: u32,
-) -> Result<Chain<P>, Fail>
-    requires { count ≡ length log.now.complex.boundaries }
-{
-    if generator >= count || !log.alive(generator) {
-        return Err(Fail::from("a generator that is left"));
+/// How many generators of a complex are left when all of it is reduced, in the degrees 0, 1 and 2.
+fn left<const P: u16>(alloc: Global, complex: Complex<P>) -> Result<[u32; 3], Fail> {
+    let field = field()?;
+    let count = complex.len();
+    let degrees = degrees_of(alloc, &complex)?;
+    let log = Log::start(alloc, complex)?.reduce_all(field)?;
+    let mut counts = [0u32; 3];
+    for generator in 0..count {
+        let degree = degrees.get(generator as usize).copied().unwrap_or(3) as usize;
+        if degree < 3 && log.alive(generator) {
+            counts[degree] = counts[degree].saturating_add(1);
+        }
     }
-    let chain = Chain::from_terms(alloc, field, &[(generator, 1)])?;
-    Ok(log.include(alloc, field, &chain)?)
+    Ok(counts)
 }
 
 /// The degrees of the generators of a complex.
@@ -199,78 +199,12 @@ fn degrees_of<const P: u16>(alloc: Global, complex: &Complex<P>) -> Result<Vec<u
     Ok(degrees)
 }
 
-/// How many of so many generators of each degree are left, and whether all that is left has no boundary.
-fn left<const P: u16>(
-    alloc: Global,
-    log: &Log<P>,
-    count: u32,
-    degrees: &[u8],
-) -> Result<([u32; 3], bool), Fail>
-    requires { count ≡ length log.now.complex.boundaries }
-{
-    let mut counts = [0u32; 3];
-    let mut empty = true;
-    for generator in 0..count {
-        if log.alive(generator) {
-            let boundary = log.left_boundary(alloc, field()?, generator)?;
-            empty = empty && boundary.is_empty();
-            let degree = degrees.get(generator as usize).copied().unwrap_or(3) as usize;
-            if degree < 3 {
-                counts[degree] = counts[degree].saturating_add(1);
-            }
-        }
-    }
-    Ok((counts, empty))
-}
-
-/// Whether the transposed projection of a generator has at each generator what the projection of that one has at it.
-fn transposes<const P: u16>(
-    alloc: Global,
-    log: &Log<P>,
-    field: Field<P>,
-    count: u32,
-    generator: u32,
-) -> Result<bool, Fail> {
-    let chain = Chain::from_terms(alloc, field, &[(generator, 1)])?;
-    let transposed = log.transposed_projection(alloc, field, &chain)?;
-    let mut same = true;
-    for other in 0..count {
-        let single = Chain::from_terms(alloc, field, &[(other, 1)])?;
-        let projected = log.project(alloc, field, &single)?;
-        same = same && transposed.coefficient(other) == projected.dot(field, &chain);
-    }
-    Ok(same)
-}
-
-/// Reduces all of a complex, and tells whether so many generators of each degree are left without a boundary, whether each is
-/// the projection of its inclusion, and whether the projection and the transposed one agree.
-fn reduces_to<const P: u16>(
-    alloc: Global,
-    complex: Complex<P>,
-    expected: [u32; 3],
-) -> Result<bool, Fail> {
-    let field = field()?;
-    let count = complex.len();
-    let degrees = degrees_of(alloc, &complex)?;
-    let log = Log::start(alloc, complex)?.reduce_all(field)?;
-    let (dimensions, empty) = left(alloc, &log, count, &degrees)?;
-    let mut good = empty && dimensions == expected;
-    for generator in 0..count {
-        if log.alive(generator) {
-            let included = include_if(alloc, &log, field, count, generator)?;
-            let back = log.project(alloc, field, &included)?;
-            good = good && back.terms() == [(generator, 1)].as_slice();
-            good = good && transposes(alloc, &log, field, count, generator)?;
-        }
-    }
-    Ok(good)
-}
-
-/// The segment after the step of its second end and the edge.
+/// The segment from the generator 0 to the generator 1, modulo 5, after the step of its second end
+/// and the edge.
 fn segment_by_its_edge(alloc: Global) -> Result<Log<5>, Fail>
     ensures { IfOk result (λ l. length l.complex.boundaries ≡ 3) }
 {
-    let complex = segment(alloc)?;
+    let complex = graph::<5>(alloc, 2, &[(0, 1)])?;
     let count = complex.len();
     if count != 3 {
         return Err(Fail::from("three cells"));
@@ -279,60 +213,58 @@ fn segment_by_its_edge(alloc: Global) -> Result<Log<5>, Fail>
     Ok(log)
 }
 
-fn of_one(alloc: Global, generator: u32) -> Result<Chain<5>, Fail> {
-    Ok(Chain::from_terms(alloc, field()?, &[(generator, 1)])?)
+fn of_one(alloc: Global, field: Field<5>, generator: u32) -> Result<Chain<5>, Fail> {
+    Ok(Chain::from_terms(alloc, field, &[(generator, 1)])?)
 }
 
 #[test]
 fn a_step_stands_in_the_log(rt: HostRuntime) -> Result<(), Fail> {
     let log = segment_by_its_edge(rt.alloc())?;
-    assert_eq!(rt; log.step_count(), 1);
-    if 0 < log.step_count() {
-        assert_eq!(rt; log.step(0), (1, 2));
+    let one = log.step_count() == 1;
+    assert!(rt; one && log.complex().len() == 3);
+    assert!(rt; log.step(0) == (1, 2));
+    assert!(rt; log.alive(0) && !log.alive(1) && !log.alive(2));
+    Ok(())
+}
+
+/// Whether the second end of the segment goes to the first and is raised to the edge, and the first
+/// comes from both ends.
+fn goes_along(alloc: Global, field: Field<5>, log: &Log<5>) -> Result<bool, Fail> {
+    let second = of_one(alloc, field, 1)?;
+    let projected = log.project(alloc, field, &second)?;
+    let raised = log.homotopy(alloc, field, &second)?;
+    let transposed = log.transposed_projection(alloc, field, &of_one(alloc, field, 0)?)?;
+    Ok(
+        has_terms(&projected, &[(0, 1)])
+            && has_terms(&raised, &[(2, 1)])
+            && has_terms(&transposed, &[(0, 1), (1, 1)]),
+    )
+}
+
+/// The inclusion of a generator, where it is one of what is left.
+fn include_if(
+    alloc: Global,
+    log: &Log<5>,
+    field: Field<5>,
+    count: u32,
+    generator: u32,
+) -> Result<Chain<5>, Fail>
+    requires { count ≡ length log.now.complex.boundaries }
+{
+    if generator >= count || !log.alive(generator) {
+        return Err(Fail::from("a generator that is left"));
     }
-    assert!(rt; log.alive(0));
-    assert!(rt; !log.alive(1));
-    assert!(rt; !log.alive(2));
-    assert_eq!(rt; log.complex().len(), 3);
-    Ok(())
+    let chain = Chain::from_terms(alloc, field, &[(generator, 1)])?;
+    Ok(log.include(alloc, field, &chain)?)
 }
 
 #[test]
-fn the_second_end_goes_to_the_first(rt: HostRuntime) -> Result<(), Fail> {
+fn maps_go_along_the_edge(rt: HostRuntime) -> Result<(), Fail> {
     let log = segment_by_its_edge(rt.alloc())?;
-    let projected = log.project(rt.alloc(), field()?, &of_one(rt.alloc(), 1)?)?;
-    assert!(rt; projected.terms() == [(0, 1)].as_slice());
-    let projected = log.project(rt.alloc(), field()?, &of_one(rt.alloc(), 2)?)?;
-    assert!(rt; projected.is_empty());
-    Ok(())
-}
-
-#[test]
-fn the_first_end_is_included_as_it_is(rt: HostRuntime) -> Result<(), Fail> {
-    let log = segment_by_its_edge(rt.alloc())?;
+    let right = goes_along(rt.alloc(), field()?, &log)?;
+    assert!(rt; right);
     let included = include_if(rt.alloc(), &log, field()?, 3, 0)?;
-    assert!(rt; included.terms() == [(0, 1)].as_slice());
-    Ok(())
-}
-
-#[test]
-fn the_second_end_is_raised_to_the_edge(rt: HostRuntime) -> Result<(), Fail> {
-    let log = segment_by_its_edge(rt.alloc())?;
-    let raised = log.homotopy(rt.alloc(), field()?, &of_one(rt.alloc(), 1)?)?;
-    assert!(rt; raised.terms() == [(2, 1)].as_slice());
-    Ok(())
-}
-
-#[test]
-fn all_of_the_segment(rt: HostRuntime) -> Result<(), Fail> {
-    let alloc = rt.alloc();
-    let complex = segment(alloc)?;
-    let count = complex.len();
-    let log = Log::start(alloc, complex)?.reduce_all(field()?)?;
-    let (dimensions, empty) = left(alloc, &log, count, &[0, 0, 1])?;
-    assert!(rt; dimensions == [1, 0, 0]);
-    assert!(rt; empty);
-    assert_eq!(rt; log.step_count(), 1);
+    assert!(rt; has_terms(&included, &[(0, 1)]));
     Ok(())
 }
 
@@ -343,18 +275,14 @@ fn further_steps_keep_the_first(rt: HostRuntime) -> Result<(), Fail> {
     let count = complex.len();
     let log = reduce_if(alloc, Log::start(alloc, complex)?, field()?, count, 2, 6)?;
     let log = log.reduce_all(field()?)?;
-    assert_eq!(rt; log.step_count(), 3);
-    if 0 < log.step_count() {
-        assert_eq!(rt; log.step(0), (2, 6));
-    }
-    let (dimensions, empty) = left(alloc, &log, count, &[0, 0, 0, 0, 1, 1, 1, 1])?;
-    assert!(rt; dimensions == [1, 1, 0]);
-    assert!(rt; empty);
+    let three = log.step_count() == 3;
+    assert!(rt; three);
+    assert!(rt; log.step(0) == (2, 6));
     Ok(())
 }
 
 /// The first of the steps by which all of a complex is reduced, and their number.
-fn first_step<const P: u16>(alloc: Global, complex: Complex<P>) -> Result<((u32, u32), u32), Fail> {
+fn first_step(alloc: Global, complex: Complex<3>) -> Result<((u32, u32), u32), Fail> {
     let log = Log::start(alloc, complex)?.reduce_all(field()?)?;
     let count = log.step_count();
     if count == 0 {
@@ -363,14 +291,14 @@ fn first_step<const P: u16>(alloc: Global, complex: Complex<P>) -> Result<((u32,
     Ok((log.step(0), count))
 }
 
-// The edge of 1 and 3 is in the first triangle alone, and those of 0 are in two.
+// The edge of 1 and 3 is in the first triangle alone, and those of 0 are in
+// two.
 #[test]
 fn a_free_pair_comes_first(rt: HostRuntime) -> Result<(), Fail> {
     let alloc = rt.alloc();
     let complex = surface::<3>(alloc, 4, &[(0, 1, 3), (0, 1, 2), (0, 2, 3)])?;
-    let (step, count) = first_step(alloc, complex)?;
-    assert_eq!(rt; step, (edge(4, 1, 3)?, 10));
-    assert_eq!(rt; count, 6);
+    let found = first_step(alloc, complex)?;
+    assert!(rt; found == ((edge(4, 1, 3)?, 10), 6));
     Ok(())
 }
 
@@ -379,42 +307,35 @@ fn a_free_pair_comes_first(rt: HostRuntime) -> Result<(), Fail> {
 fn the_lightest_column_comes_first(rt: HostRuntime) -> Result<(), Fail> {
     let alloc = rt.alloc();
     let complex = graph::<3>(alloc, 4, &[(0, 1), (1, 2), (2, 3), (3, 0), (0, 2)])?;
-    let (step, count) = first_step(alloc, complex)?;
-    assert_eq!(rt; step, (1, 4));
-    assert_eq!(rt; count, 3);
+    let found = first_step(alloc, complex)?;
+    assert!(rt; found == ((1, 4), 3));
     Ok(())
 }
 
 #[test]
 fn a_circle_has_one_hole(rt: HostRuntime) -> Result<(), Fail> {
     let alloc = rt.alloc();
-    let modulo_two = reduces_to(alloc, circle::<2>(alloc)?, [1, 1, 0])?;
-    assert!(rt; modulo_two);
-    let modulo_three = reduces_to(alloc, circle::<3>(alloc)?, [1, 1, 0])?;
-    assert!(rt; modulo_three);
+    let found = left(alloc, circle::<3>(alloc)?)?;
+    assert!(rt; found == [1, 1, 0]);
     Ok(())
 }
 
 #[test]
 fn the_projective_plane_depends_on_the_prime(rt: HostRuntime) -> Result<(), Fail> {
     let alloc = rt.alloc();
-    let two = surface::<2>(alloc, 6, &PROJECTIVE_PLANE)?;
-    let modulo_two = reduces_to(alloc, two, [1, 1, 1])?;
-    assert!(rt; modulo_two);
-    let three = surface::<3>(alloc, 6, &PROJECTIVE_PLANE)?;
-    let modulo_three = reduces_to(alloc, three, [1, 0, 0])?;
-    assert!(rt; modulo_three);
+    let modulo_two = left(alloc, surface::<2>(alloc, 6, &PROJECTIVE_PLANE)?)?;
+    assert!(rt; modulo_two == [1, 1, 1]);
+    let modulo_three = left(alloc, surface::<3>(alloc, 6, &PROJECTIVE_PLANE)?)?;
+    assert!(rt; modulo_three == [1, 0, 0]);
     Ok(())
 }
 
 #[test]
 fn the_torus_has_two_tunnels(rt: HostRuntime) -> Result<(), Fail> {
     let alloc = rt.alloc();
-    let two = surface::<2>(alloc, 7, &TORUS)?;
-    let modulo_two = reduces_to(alloc, two, [1, 2, 1])?;
-    assert!(rt; modulo_two);
-    let five = surface::<5>(alloc, 7, &TORUS)?;
-    let modulo_five = reduces_to(alloc, five, [1, 2, 1])?;
-    assert!(rt; modulo_five);
+    let modulo_two = left(alloc, surface::<2>(alloc, 7, &TORUS)?)?;
+    assert!(rt; modulo_two == [1, 2, 1]);
+    let modulo_three = left(alloc, surface::<3>(alloc, 7, &TORUS)?)?;
+    assert!(rt; modulo_three == [1, 2, 1]);
     Ok(())
 }

@@ -1,10 +1,9 @@
 //! Map files: what they give, and where they are refused.
-use cube_maps::CubeMap;
+use cube_maps::{CubeMap, limit_is_of_the_formats};
 use elem_cubes::{Cell, Corner};
 use grid_files::{TextCause, TextFault};
-use map_files::read_map;
+use map_files::{read_map, refusals_are_first, texts_have_one_outcome};
 use std::alloc::Global;
-use std::process::Abort;
 use std::test::Fail;
 
 // The full cube with this lower corner.
@@ -18,49 +17,46 @@ fn map(alloc: Global, text: &str) -> Result<CubeMap, Fail> {
     Ok(read_map(alloc, text.as_bytes())?)
 }
 
+// Whether a map names a cube, and its value has these cubes.
+fn sends(map: &CubeMap, cube: &Cell, wanted: &[Cell]) -> bool {
+    match map.value(cube) {
+        Some(value) => value == wanted,
+        None => false,
+    }
+}
+
 #[test]
 fn a_cube_that_is_named_twice_has_all_its_values(rt: HostRuntime) -> Result<(), Fail> {
     let text =
         "dimension 1\n(5)->(7) map of a line\n(0) -> {(2)(1) (2)} ; a comment\n(5) ->{} (0)->(3)";
     let read = map(rt.alloc(), text)?;
-    assert_eq!(rt; read.dimension(), 1);
-    assert_eq!(rt; read.len(), 2);
-    let first = cube(&[0])?;
-    let other = cube(&[5])?;
+    let (first, other) = (cube(&[0])?, cube(&[5])?);
     let values = [cube(&[1])?, cube(&[2])?, cube(&[3])?];
-    assert!(rt; read.value(&first) == Some(values.as_slice()));
-    assert!(rt; read.value(&other) == Some([cube(&[7])?].as_slice()));
-    assert!(rt; read.value(&cube(&[1])?).is_none());
-    let two = read.len() == 2;
-    assert!(rt; two);
+    assert!(rt; sends(&read, &first, &values));
+    assert!(rt; sends(&read, &other, &[cube(&[7])?]));
+    assert!(rt; sends(&read.copy(rt.alloc())?, &first, &values));
+    assert!(rt; read.dimension() == 1 && read.value(&cube(&[1])?).is_none());
+    let len = read.len();
+    assert!(rt; len == 2);
     assert!(rt; read.source(0) == first && read.source(1) == other);
-    let again = read.copy(rt.alloc())?;
-    assert!(rt; again.value(&first) == Some(values.as_slice()) && again.len() == 2);
     Ok(())
 }
 
 #[test]
 fn an_empty_value_names_its_cube(rt: HostRuntime) -> Result<(), Fail> {
     let read = map(rt.alloc(), "(0 0) -> {}")?;
-    assert_eq!(rt; read.dimension(), 2);
-    let named = cube(&[0, 0])?;
-    let is_empty = match read.value(&named) {
-        Some(value) => value.is_empty(),
-        None => false,
-    };
-    assert!(rt; is_empty);
+    assert!(rt; read.dimension() == 2 && sends(&read, &cube(&[0, 0])?, &[]));
     let none = map(rt.alloc(), "; nothing\n")?;
     assert!(rt; none.dimension() == 0 && none.len() == 0);
     Ok(())
 }
 
-// Where the text is refused, and why.
-fn refusal(rt: &impl Abort, alloc: Global, text: &str, place: u64, cause: TextCause) {
-    let at = TextFault::At { place, cause };
-    assert!(rt;
-        read_map(alloc, text.as_bytes()).err() == Some(at),
-        "in {text:?}"
-    );
+// Where a text is refused, and why; nothing where it has a value, or no memory was left.
+fn refusal(alloc: Global, text: &str) -> Option<(u64, TextCause)> {
+    match read_map(alloc, text.as_bytes()) {
+        Err(TextFault::At { place, cause }) => Some((place, cause)),
+        _ => None,
+    }
 }
 
 #[test]
@@ -89,6 +85,14 @@ fn refused_texts(rt: HostRuntime) {
         ("(1 2 3 4 5) -> {}", 0, TextCause::DimensionTooLarge),
         ("dimension 0", 10, TextCause::BadNumber),
     ] {
-        refusal(&rt, rt.alloc(), text, place, cause);
+        let wanted = Some((place, cause));
+        assert!(rt; refusal(rt.alloc(), text) == wanted, "in {text:?}");
     }
+}
+
+#[test]
+fn laws_of_map_files_hold() {
+    limit_is_of_the_formats();
+    refusals_are_first();
+    texts_have_one_outcome();
 }

@@ -4,13 +4,24 @@ use grid_files::{
     texts_have_one_outcome, written_sets_are_read,
 };
 use std::alloc::Global;
+use std::process::Abort;
+
+// Texts with places.
+type Places<'a> = &'a [(&'a str, u64)];
 
 // The cause with which a text is refused, and its place; nothing where it has a value, or no memory was left.
 fn refusal(alloc: Global, text: &str, kind: Kind) -> Option<(u64, TextCause)> {
     match read_set(alloc, text.as_bytes(), kind) {
-        Ok(_) => None,
         Err(TextFault::At { place, cause }) => Some((place, cause)),
-        Err(TextFault::NoMemory) => None,
+        _ => None,
+    }
+}
+
+// Each of these texts is refused with the cause, at its place.
+fn are_refused(rt: &impl Abort, alloc: Global, kind: Kind, cause: TextCause, texts: Places) {
+    for (text, place) in texts {
+        let wanted = Some((*place, cause));
+        assert!(rt; refusal(alloc, text, kind) == wanted, "in {text:?}");
     }
 }
 
@@ -43,37 +54,39 @@ fn values(rt: HostRuntime) {
         ),
         ("(007 -0)", (1, 2)),
         ("(0 0) ; (1 0)\n(2 0)", (2, 2)),
+        ("[(0)(0)]", (1, 1)),
+        ("[(0 0)(1 1)] [(5 5)(5 5)]", (2, 2)),
+        ("dimension 1\n[(3)(3)]", (1, 1)),
     ] {
-        assert_eq!(rt;
-            sizes(rt.alloc(), text, Kind::Any),
-            Some(wanted),
-            "in {text:?}"
-        );
+        let found = sizes(rt.alloc(), text, Kind::Any);
+        assert!(rt; found == Some(wanted), "in {text:?}");
     }
 }
 
 #[test]
-fn prefixes(rt: HostRuntime) {
-    for text in [
-        "[",
-        "[(",
-        "[(0",
-        "[(0 0",
-        "[(0 0)",
-        "[(0 0)(",
-        "[(0 0)(1",
-        "[(0 0)(1 0",
-        "[(0 0)(1 0)",
-    ] {
-        let wanted = Some((0, TextCause::Unclosed));
-        assert_eq!(rt; refusal(rt.alloc(), text, Kind::Any), wanted, "in {text:?}");
-    }
-    assert_eq!(rt; sizes(rt.alloc(), "[(0 0)(1 0)]", Kind::Any), Some((1, 2)));
+fn texts_that_end_too_early(rt: HostRuntime) {
+    let texts: Places = &[
+        ("(", 0),
+        ("(0 0", 0),
+        ("(0) (", 4),
+        ("(0 0) (1", 6),
+        ("(0) ; )\n(1 ; )", 8),
+        ("[", 0),
+        ("[(", 0),
+        ("[(0", 0),
+        ("[(0 0", 0),
+        ("[(0 0)", 0),
+        ("[(0 0)(", 0),
+        ("[(0 0)(1", 0),
+        ("[(0 0)(1 0", 0),
+        ("[(0 0)(1 0)", 0),
+    ];
+    are_refused(&rt, rt.alloc(), Kind::Any, TextCause::Unclosed, texts);
 }
 
 #[test]
-fn bad_bytes_and_numbers(rt: HostRuntime) {
-    for (text, place) in [
+fn bad_bytes(rt: HostRuntime) {
+    let texts: Places = &[
         ("5", 0),
         ("(0 0 0 0 0 x)", 11),
         ("()", 1),
@@ -85,14 +98,13 @@ fn bad_bytes_and_numbers(rt: HostRuntime) {
         ("{", 0),
         ("(0 dimension 2)", 3),
         ("9223372036854775808", 0),
-    ] {
-        assert_eq!(rt;
-            refusal(rt.alloc(), text, Kind::Any),
-            Some((place, TextCause::BadByte)),
-            "in {text:?}"
-        );
-    }
-    for (text, place) in [
+    ];
+    are_refused(&rt, rt.alloc(), Kind::Any, TextCause::BadByte, texts);
+}
+
+#[test]
+fn bad_numbers(rt: HostRuntime) {
+    let texts: Places = &[
         ("(9223372036854775808)", 1),
         ("[(0)(-9223372036854775809)]", 5),
         ("dimension", 9),
@@ -102,62 +114,49 @@ fn bad_bytes_and_numbers(rt: HostRuntime) {
         ("dimension x", 10),
         ("dimension -1", 10),
         ("dimension 9999999999999999999", 10),
-    ] {
-        assert_eq!(rt;
-            refusal(rt.alloc(), text, Kind::Any),
-            Some((place, TextCause::BadNumber)),
-            "in {text:?}"
-        );
-    }
+    ];
+    are_refused(&rt, rt.alloc(), Kind::Any, TextCause::BadNumber, texts);
 }
 
 #[test]
-fn open_and_mixed(rt: HostRuntime) {
-    for (text, place) in [
-        ("(", 0),
-        ("(0 0", 0),
-        ("(0) (", 4),
-        ("[(0)", 0),
-        ("(0 0) (1", 6),
-        ("(0) ; )\n(1 ; )", 8),
-    ] {
-        assert_eq!(rt;
-            refusal(rt.alloc(), text, Kind::Any),
-            Some((place, TextCause::Unclosed)),
-            "in {text:?}"
-        );
-    }
-    for (text, place) in [
+fn mixed_dimensions(rt: HostRuntime) {
+    let texts: Places = &[
         ("(0)(0 0)", 3),
         ("dimension 1\n(0 0)", 12),
         ("(0 0)\ndimension 1", 16),
         ("dimension 2\ndimension 3", 22),
         ("(0 0)[(0)(1)]", 5),
-    ] {
-        assert_eq!(rt;
-            refusal(rt.alloc(), text, Kind::Full),
-            Some((place, TextCause::MixedDimension)),
-            "in {text:?}"
-        );
-    }
+    ];
+    are_refused(
+        &rt,
+        rt.alloc(),
+        Kind::Full,
+        TextCause::MixedDimension,
+        texts,
+    );
 }
 
 #[test]
-fn too_large(rt: HostRuntime) {
-    for (text, place) in [
+fn dimensions_that_are_too_large(rt: HostRuntime) {
+    let texts: Places = &[
         ("(0 0 0 0 0)", 0),
         ("[(0 0 0 0 0)(0)]", 0),
         ("[(0)(0 0 0 0 0)]", 0),
         ("dimension 5", 10),
         ("(0) (0 0 0 0 0 0)", 4),
-    ] {
-        assert_eq!(rt;
-            refusal(rt.alloc(), text, Kind::Any),
-            Some((place, TextCause::DimensionTooLarge)),
-            "in {text:?}"
-        );
-    }
-    for (text, place) in [
+    ];
+    are_refused(
+        &rt,
+        rt.alloc(),
+        Kind::Any,
+        TextCause::DimensionTooLarge,
+        texts,
+    );
+}
+
+#[test]
+fn coordinates_that_are_too_large(rt: HostRuntime) {
+    let texts: Places = &[
         ("(1073741825)", 1),
         ("(-1073741825)", 1),
         ("[(1073741826)(0)]", 2),
@@ -165,44 +164,38 @@ fn too_large(rt: HostRuntime) {
         ("(9223372036854775807)", 1),
         ("(0 -9223372036854775808)", 3),
         ("(0 0 0 0 0 1073741825)", 11),
-    ] {
-        assert_eq!(rt;
-            refusal(rt.alloc(), text, Kind::Any),
-            Some((place, TextCause::CoordinateTooLarge)),
-            "in {text:?}"
-        );
-    }
+    ];
+    are_refused(
+        &rt,
+        rt.alloc(),
+        Kind::Any,
+        TextCause::CoordinateTooLarge,
+        texts,
+    );
 }
 
 #[test]
-fn not_such_cubes(rt: HostRuntime) {
-    for (text, place) in [
+fn cubes_that_are_not_elementary(rt: HostRuntime) {
+    let texts: Places = &[
         ("[(0)(2)]", 0),
         ("[(1)(0)]", 0),
         ("[(0 0)(1)]", 0),
         ("(0) [(0)(-1)]", 4),
         ("[(0 0)(1 2)]", 0),
-    ] {
-        assert_eq!(rt;
-            refusal(rt.alloc(), text, Kind::Full),
-            Some((place, TextCause::NotElementary)),
-            "in {text:?}"
-        );
-    }
-    for (text, place) in [
+    ];
+    are_refused(&rt, rt.alloc(), Kind::Full, TextCause::NotElementary, texts);
+}
+
+#[test]
+fn cubes_that_are_not_full(rt: HostRuntime) {
+    let texts: Places = &[
         ("[(0)(0)]", 0),
         ("[(0 0)(1 0)]", 0),
         ("(0 0) [(0 0)(0 1)]", 6),
         ("[(0 0)(1 1)] [(5 5)(5 5)]", 13),
         ("dimension 1\n[(3)(3)]", 12),
-    ] {
-        assert_eq!(rt;
-            refusal(rt.alloc(), text, Kind::Full),
-            Some((place, TextCause::NotFull)),
-            "in {text:?}"
-        );
-        assert_eq!(rt; refusal(rt.alloc(), text, Kind::Any), None, "in {text:?}");
-    }
+    ];
+    are_refused(&rt, rt.alloc(), Kind::Full, TextCause::NotFull, texts);
 }
 
 #[test]

@@ -2,19 +2,23 @@
 use cube_sets::CUBES;
 use grid_files::{Kind, read_set, write_set};
 use std::alloc::Global;
-use std::process::Abort;
-use std::test::Fail;
 
-// The text of a set, read with any kind of cell.
-fn rewritten(rt: &impl Abort, alloc: Global, text: &str) -> Result<Vec<u8>, Fail> {
-    let set = read_set(alloc, text.as_bytes(), Kind::Any)?;
-    let few = set.len() <= CUBES;
-    assert!(rt; few);
-    Ok(write_set(alloc, &set)?)
+// Whether the set of a text, read with any kind of cell, is written so.
+fn is_written(alloc: Global, text: &str, wanted: &str) -> bool {
+    let Ok(set) = read_set(alloc, text.as_bytes(), Kind::Any) else {
+        return false;
+    };
+    if set.len() > CUBES {
+        return false;
+    }
+    match write_set(alloc, &set) {
+        Ok(found) => found.as_slice() == wanted.as_bytes(),
+        Err(_) => false,
+    }
 }
 
 #[test]
-fn written_forms(rt: HostRuntime) -> Result<(), Fail> {
+fn written_forms(rt: HostRuntime) {
     for (text, wanted) in [
         ("", ""),
         ("dimension 3", "dimension 3\n"),
@@ -24,10 +28,7 @@ fn written_forms(rt: HostRuntime) -> Result<(), Fail> {
         ),
         ("[(3)(4)][(2)(2)]", "dimension 1\n[(2)(2)]\n(3)\n"),
     ] {
-        let once = rewritten(&rt, rt.alloc(), text)?;
-        assert!(rt; once.as_slice() == wanted.as_bytes(), "in {text:?}");
-        let again = rewritten(&rt, rt.alloc(), wanted)?;
-        assert!(rt; again.as_slice() == wanted.as_bytes(), "again {text:?}");
+        assert!(rt; is_written(rt.alloc(), text, wanted), "in {text:?}");
+        assert!(rt; is_written(rt.alloc(), wanted, wanted), "again {text:?}");
     }
-    Ok(())
 }
