@@ -6,7 +6,8 @@ use acyclic_values::{Contraction, Hole, ValueFault, contract_value};
 use field_mod::Field;
 use std::alloc::Global;
 
-// A contraction of the cells of the set of a text, where there is one, and how many cells there are.
+// A contraction of the cells of the set of a text, where there is one, and how many cells there
+// are.
 fn contraction_of(alloc: Global, text: &str) -> Option<(u32, Contraction<3>)>
     ensures { IfSome result (λ r. length r.1.homotopies ≡ r.0) }
 {
@@ -74,9 +75,10 @@ fn point_stays(alloc: Global) -> bool {
     count == 1 && contraction.vertex() == 0 && contraction.homotopy(0).is_empty()
 }
 
-// Whether a contraction of the segment to one of its ends moves the other end along the segment, and nothing else. The ends are
-// the places 0 and 2, and the boundary of the segment, the place 1, is the upper end less the lower one: so the upper end is
-// moved by 1 times the segment, the lower one by -1 times it.
+// Whether a contraction of the segment to one of its ends moves the other end along the segment,
+// and nothing else. The ends are the places 0 and 2, and the boundary of the segment, the place 1,
+// is the upper end less the lower one: so the upper end is moved by 1 times the segment, the lower
+// one by -1 times it.
 fn segment_shrinks(alloc: Global) -> bool {
     let Some((count, contraction)) = contraction_of(alloc, "(0)") else {
         return false;
@@ -103,8 +105,8 @@ fn homotopies_are_along_the_cells(rt: HostRuntime) {
     assert!(rt; segment_shrinks(rt.alloc()));
 }
 
-// Whether the cells of the set of a text have a hole of a degree, or no degree where there are none, with chains whose product
-// is 1.
+// Whether the cells of the set of a text have a hole of a degree, or no degree where there are
+// none, with chains whose product is 1.
 fn has_hole(alloc: Global, text: &str, wanted: Option<u8>) -> bool {
     let Some(field) = Field::<3>::get() else {
         return false;

@@ -1,4 +1,5 @@
-//! Tests of maps of full cubes, through public calls alone: their values at cells, and what contracts or has a hole.
+//! Tests of maps of full cubes, through public calls alone: their values at cells, and what
+//! contracts or has a hole.
 #![tactic(auto)]
 
 #[cfg(test)]

@@ -12,10 +12,12 @@ use std::alloc::Global;
 // The texts of a set with a subset, and of another set with a subset.
 type Pairs<'a> = (&'a str, &'a str, &'a str, &'a str);
 
-// What the text of a map of the line doubles: each segment goes to the two segments of twice its ends.
+// What the text of a map of the line doubles: each segment goes to the two segments of twice its
+// ends.
 const DOUBLING: &str = "(-2) -> {(-4) (-3)} (-1) -> {(-2) (-1)} (0) -> {(0) (1)} (1) -> {(2) (3)}";
 
-// What check_values tells of a map and of sets, where these are of full cubes and all are of one dimension.
+// What check_values tells of a map and of sets, where these are of full cubes and all are of one
+// dimension.
 fn check(
     alloc: Global,
     map: &CubeMap,
@@ -146,7 +148,8 @@ fn plain_value(
     }
 }
 
-// Whether the carrier of a map, and a copy of the map, have the cells of a set as their value at a cell.
+// Whether the carrier of a map, and a copy of the map, have the cells of a set as their value at a
+// cell.
 fn has_value(alloc: Global, map: &str, x: &str, y: &str, cell: &str, wanted: &str) -> bool {
     let (Some(map), Some(x), Some(y)) = (map_of(alloc, map), set_of(alloc, x), set_of(alloc, y))
     else {
