@@ -1,4 +1,5 @@
-//! Maps of full cubes: their values at all cells, whether these are acyclic, and the chain maps that they carry.
+//! Maps of full cubes: their values at all cells, whether these are acyclic, and the chain maps
+//! that they carry.
 #![tactic(auto)]
 
 mod contraction;

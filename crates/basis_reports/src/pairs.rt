@@ -14,8 +14,8 @@ use report::{Cycles, PairReport};
 use std::alloc::Global;
 
 /// The dimensions of the homology of the pair of x and a, and the cycles of a basis where they are
-/// shown, by degree from 0 to `most`; and the counts of the pair. `TooManyCells` comes exactly where
-/// x and those members of a that meet it have together more than `CELLS` cells.
+/// shown, by degree from 0 to `most`; and the counts of the pair. `TooManyCells` comes exactly
+/// where x and those members of a that meet it have together more than `CELLS` cells.
 pub fn pair_homology<const P: u16>(
     alloc: Global,
     field: Field<P>,

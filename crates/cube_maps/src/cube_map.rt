@@ -21,8 +21,9 @@ impl Model for Entry {
     ghost view = { λ e. record { cube = e.cube; value = e.value.items } };
 }
 
-/// A map that sends full cubes to sets of full cubes of the same dimension, 0 where that is unknown and the map names no cube. It
-/// is seen as its dimension and the named cubes in order, each with its value in order.
+/// A map that sends full cubes to sets of full cubes of the same dimension, 0 where that is unknown
+/// and the map names no cube. It is seen as its dimension and the named cubes in order, each with
+/// its value in order.
 #[derive(Drop)]
 pub struct CubeMap {
     pub(crate) dimension: u8,
@@ -36,7 +37,10 @@ impl Model for CubeMap {
 
     ghost view = { λ m. record { dimension = m.dimension; named = m.entries.items } };
 
-    ghost invariant = { λ m. IsCubeMap (record { dimension = m.dimension; named = m.entries.items }) };
+    ghost invariant = { λ m. IsCubeMap (record {
+      dimension = m.dimension;
+      named = m.entries.items;
+    }) };
 }
 
 impl CubeMap {
@@ -66,7 +70,8 @@ impl CubeMap {
 
     /// The value of a cube, or `None` exactly where the map does not name it.
     pub fn value(&self, cube: &Cell) -> Option<&[Cell]>
-        ensures some { IfSome result (λ value. (names self.now.named cube.now ≡ true) × (value.now ≡ value_of self.now.named cube.now)) }
+        ensures some { IfSome result (λ value. (names self.now.named cube.now ≡ true)
+            × (value.now ≡ value_of self.now.named cube.now)) }
         ensures none { IfNone result (names self.now.named cube.now ≡ false) }
     {
         match self.entries.binary_search_by_key(cube, |entry| entry.cube) {

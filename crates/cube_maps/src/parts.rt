@@ -17,7 +17,8 @@ use std::alloc::{AllocError, Global};
 /// The most named cubes of a map, and the most pairs of a cube and a cube of its value.
 pub const MAP_PAIRS: u32 = 1_048_576;
 
-// The values of a cube: of the pairs from this place on, those that begin with it; and the place behind them.
+// The values of a cube: of the pairs from this place on, those that begin with it; and the place
+// behind them.
 fn first_values(
     alloc: Global,
     pairs: &[Pair],
@@ -26,7 +27,8 @@ fn first_values(
 ) -> Result<(Vec<Cell>, usize), AllocError>
     requires { from ≤ length pairs.now }
     ensures values { IfOk result (λ r. r.0.items ≡ first_values (drop from pairs.now) cube.now) }
-    ensures others { IfOk result (λ r. drop r.1 pairs.now ≡ other_pairs (drop from pairs.now) cube.now) }
+    ensures others { IfOk result (λ r. drop r.1 pairs.now ≡ other_pairs
+        (drop from pairs.now) cube.now) }
     ensures count { IfOk result (λ r. from + vec_len r.0 ≡ r.1) }
     ensures within { IfOk result (λ r. r.1 ≤ length pairs.now) }
 {
@@ -58,8 +60,8 @@ fn entries(alloc: Global, cubes: &[Cell], pairs: &[Pair]) -> Result<Vec<Entry>, 
 }
 
 impl CubeMap {
-    /// The map that names these cubes, and in whose values these pairs are; each may stand more than once. The dimension is 0 for no
-    /// cubes alone.
+    /// The map that names these cubes, and in whose values these pairs are; each may stand more
+    /// than once. The dimension is 0 for no cubes alone.
     pub fn of_parts(
         alloc: Global,
         dimension: u8,
@@ -75,8 +77,10 @@ impl CubeMap {
         requires few_pairs { vec_len pairs ≤ MAP_PAIRS }
         ensures map { IfOk result IsCubeMap }
         ensures dimension { IfOk result (λ m. m.dimension ≡ dimension) }
-        ensures names { IfOk result (λ m. (q : List Factor) → names m.named q ≡ has cell_cmp cubes.items q) }
-        ensures pairs { IfOk result (λ m. (q v : List Factor) → has cell_cmp (value_of m.named q) v ≡ is_pair pairs.items q v) }
+        ensures names { IfOk result (λ m. (q : List Factor)
+            → names m.named q ≡ has cell_cmp cubes.items q) }
+        ensures pairs { IfOk result (λ m. (q v : List Factor)
+            → has cell_cmp (value_of m.named q) v ≡ is_pair pairs.items q v) }
     {
         let mut cubes = cubes;
         let mut pairs = pairs;

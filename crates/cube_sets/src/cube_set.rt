@@ -33,7 +33,10 @@ impl Model for CubeSet {
 
     ghost view = { λ s. record { dimension = s.dimension; cells = s.cells.items } };
 
-    ghost invariant = { λ s. IsCubeSet (record { dimension = s.dimension; cells = s.cells.items }) };
+    ghost invariant = { λ s. IsCubeSet (record {
+      dimension = s.dimension;
+      cells = s.cells.items;
+    }) };
 }
 
 /// Whether all of these cells lie in the range of the files and have this embedding dimension.
@@ -59,7 +62,8 @@ impl CubeSet {
         requires unknown { dimension ≡ 0 → cells.items ≡ [] }
         ensures ok { IsOk result }
         ensures dimension { IfOk result (λ s. s.dimension ≡ dimension) }
-        ensures members { IfOk result (λ s. (c : List Factor) → holds s c ≡ has cell_cmp cells.items c) }
+        ensures members { IfOk result (λ s. (c : List Factor)
+            → holds s c ≡ has cell_cmp cells.items c) }
     {
         let mut cells = cells;
         sort_distinct(&mut cells);
@@ -118,9 +122,11 @@ impl CubeSet {
     pub fn union(&self, alloc: Global, other: &CubeSet) -> Result<CubeSet, AllocError>
         requires agree { IsTrue (dimensions_agree self.now.dimension other.now.dimension) }
         requires few { length self.now.cells + length other.now.cells < 2 ^ 32 }
-        ensures dimension { IfOk result (λ s. s.dimension ≡ max self.now.dimension other.now.dimension) }
+        ensures dimension { IfOk result
+            (λ s. s.dimension ≡ max self.now.dimension other.now.dimension) }
         ensures members { IfOk result (IsUnion self.now other.now) }
-        ensures cells { IfOk result (λ s. s.cells ≡ union_of cell_cmp self.now.cells other.now.cells) }
+        ensures cells { IfOk result (λ s. s.cells ≡ union_of cell_cmp self.now.cells
+            other.now.cells) }
     {
         let cells = union_of_all(alloc, &self.cells, &other.cells)?;
         Ok(CubeSet {
@@ -133,7 +139,8 @@ impl CubeSet {
     pub fn intersection(&self, alloc: Global, other: &CubeSet) -> Result<CubeSet, AllocError>
         requires agree { IsTrue (dimensions_agree self.now.dimension other.now.dimension) }
         requires few { length self.now.cells + length other.now.cells < 2 ^ 32 }
-        ensures dimension { IfOk result (λ s. s.dimension ≡ max self.now.dimension other.now.dimension) }
+        ensures dimension { IfOk result
+            (λ s. s.dimension ≡ max self.now.dimension other.now.dimension) }
         ensures members { IfOk result (IsIntersection self.now other.now) }
         ensures cells { IfOk result (λ s.
             s.cells ≡ intersection_of cell_cmp self.now.cells other.now.cells) }
@@ -145,8 +152,8 @@ impl CubeSet {
         })
     }
 
-    // The members and the cells to which they are changed along all axes, or `TooMany` exactly where
-    // they are more than so many. All of these are of the set's dimension and in range.
+    // The members and the cells to which they are changed along all axes, or `TooMany` exactly
+    // where they are more than so many. All of these are of the set's dimension and in range.
     fn spread_within(
         &self,
         alloc: Global,
@@ -201,8 +208,8 @@ impl CubeSet {
     }
 
     /// The set of all full cubes that share a point with a member; all members are full cubes.
-    /// `Coordinates` comes exactly where one of them has an end outside the range of the files, else
-    /// `TooMany` exactly where they are more than `CUBES`.
+    /// `Coordinates` comes exactly where one of them has an end outside the range of the files,
+    /// else `TooMany` exactly where they are more than `CUBES`.
     pub fn neighbourhood(&self, alloc: Global) -> Result<CubeSet, SetFault>
         requires { IsTrue (are_full self.now.cells) }
         ensures cells { IfOk result (λ s. s ≡ neighbourhood self.now) }

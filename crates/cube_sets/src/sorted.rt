@@ -52,7 +52,8 @@ pub(crate) fn union<T: Ord + Copy>(
     requires right { IsStrictlySortedBy T.cmp right.now }
     ensures all { IfOk result (λ all. IfSome all (λ all.
         (all.items ≡ union_of T.cmp left.now right.now) × (vec_len all ≤ limit))) }
-    ensures more { IfOk result (λ all. IfNone all (limit < length (union_of T.cmp left.now right.now))) }
+    ensures more { IfOk result (λ all. IfNone all
+        (limit < length (union_of T.cmp left.now right.now))) }
 {
     let mut all = Vec::with_capacity(alloc, limit.min(left.len().saturating_add(right.len())))?;
     let mut i = 0;

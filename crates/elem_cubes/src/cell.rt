@@ -253,7 +253,8 @@ impl Cell {
     pub(crate) fn downward(&self, i: usize) -> Cell
         requires axis { i < length self.now }
         requires range { IsTrue (list_all is_file_factor self.now) }
-        ensures { result ≡ slice_set self.now i (moved (negsuc 0) (interval (low (factor_at self.now i)))) }
+        ensures { result ≡ slice_set self.now i
+            (moved (negsuc 0) (interval (low (factor_at self.now i)))) }
     {
         self.with_interval(i, self.low(i) - 1)
     }

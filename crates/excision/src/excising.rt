@@ -11,11 +11,12 @@ use cube_sets::CubeSet;
 use elem_cubes::Cell;
 use std::alloc::{AllocError, Global};
 
-/// The members of `a` that share a point with a member of `x`: with them alone in its place the relative cells stay the same.
-/// It looks up the vertices of each among the faces of `x`.
+/// The members of `a` that share a point with a member of `x`: with them alone in its place the
+/// relative cells stay the same. It looks up the vertices of each among the faces of `x`.
 pub fn excise(alloc: Global, x: &CubeSet, a: &CubeSet) -> Result<CubeSet, AllocError>
     ensures excised { IfOk result (λ s. s ≡ excised x.now a.now) }
-    ensures relative { IfOk result (λ s. (q : List Factor) → is_relative x.now.cells s.cells q ≡ is_relative x.now.cells a.now.cells q) }
+    ensures relative { IfOk result (λ s. (q : List Factor)
+        → is_relative x.now.cells s.cells q ≡ is_relative x.now.cells a.now.cells q) }
 {
     let _ = a.len();
     let near = near_members(alloc, x, a)?;
@@ -54,7 +55,8 @@ fn faces_of(alloc: Global, x: &CubeSet) -> Result<CubeSet, AllocError>
 
 // Whether some vertex of a cell is one of these.
 fn has_vertex_in(faces: &CubeSet, cell: &Cell) -> bool
-    ensures { (result ≡ true → HasVertexIn (holds faces.now) cell.now) × (HasVertexIn (holds faces.now) cell.now → result ≡ true) }
+    ensures { (result ≡ true → HasVertexIn (holds faces.now) cell.now)
+        × (HasVertexIn (holds faces.now) cell.now → result ≡ true) }
 {
     for face in cell.closure() {
         if face.dim() != 0 {

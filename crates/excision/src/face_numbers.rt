@@ -17,8 +17,8 @@ const FEW: usize = 16;
 // Room for a number beside each place of a closure.
 const PLACES: usize = 729;
 
-/// For each member of a set, by its place, the numbers of its faces in the order of its closure; seen as these lists. For a face
-/// that has no number the count of cells stands.
+/// For each member of a set, by its place, the numbers of its faces in the order of its closure;
+/// seen as these lists. For a face that has no number the count of cells stands.
 #[derive(Drop)]
 pub struct FaceNumbers {
     rows: Vec<Vec<u32>>,
@@ -33,8 +33,8 @@ impl Model for FaceNumbers {
 }
 
 impl FaceNumbers {
-    /// Those of all members of a set. Members in order have the faces at a place of their closures in order, mostly: so each is
-    /// looked for first behind the one before it.
+    /// Those of all members of a set. Members in order have the faces at a place of their closures
+    /// in order, mostly: so each is looked for first behind the one before it.
     pub(crate) fn of(
         alloc: Global,
         cells: &Numbered,
@@ -78,8 +78,8 @@ fn numbers_of(
     Ok(numbers)
 }
 
-// The number of a cell, or the count of cells. It is looked for first among the few cells from `near` on, which is then the place
-// behind it.
+// The number of a cell, or the count of cells. It is looked for first among the few cells from
+// `near` on, which is then the place behind it.
 fn number_or_count(cells: &Numbered, cell: &Cell, near: &mut u32) -> u32
     ensures { result ≡ number_of cells.now cell.now }
 {

@@ -23,16 +23,18 @@ use field_mod::Field;
 use std::alloc::{AllocError, Global};
 use std::collections::BTreeMap;
 
-/// A log whose steps take the faces of some cubes, and these cubes in the order in which they were moved.
+/// A log whose steps take the faces of some cubes, and these cubes in the order in which they were
+/// moved.
 #[derive(Drop)]
 pub struct Grown<const P: u16> {
     pub log: Log<P>,
     pub cubes: CellList,
 }
 
-/// Moves members of `x` into the subset, each when its cells that are in it are acyclic, until there is none such, and
-/// reduces the cells of each among themselves. The log has no steps, and is of the complex of these cells, which are those of
-/// the pair. A member is looked at at first, and again after a member was moved that has a cell of it.
+/// Moves members of `x` into the subset, each when its cells that are in it are acyclic, until
+/// there is none such, and reduces the cells of each among themselves. The log has no steps, and is
+/// of the complex of these cells, which are those of the pair. A member is looked at at first, and
+/// again after a member was moved that has a cell of it.
 pub fn grow<const P: u16>(
     alloc: Global,
     field: Field<P>,
@@ -78,8 +80,8 @@ pub fn grow<const P: u16>(
     Ok(Grown { log, cubes })
 }
 
-// The first waiting member that may be moved into the cells that are not left, by its place. Those before it wait no more; none
-// of the others that do not wait may be moved.
+// The first waiting member that may be moved into the cells that are not left, by its place. Those
+// before it wait no more; none of the others that do not wait may be moved.
 fn next_movable<const P: u16>(
     alloc: Global,
     field: Field<P>,
@@ -91,15 +93,21 @@ fn next_movable<const P: u16>(
     known: &mut BTreeMap<u64, bool>,
 ) -> Result<Option<u32>, AllocError>
     requires complex { IsComplexOf P cells.now log.now.complex }
-    requires closed { (q : List Factor) → Contains x.now.cells q → IsClosedIn q (is_gone cells.now log.now.steps) }
+    requires closed { (q : List Factor) → Contains x.now.cells q
+        → IsClosedIn q (is_gone cells.now log.now.steps) }
     requires faces { faces.now ≡ map (face_numbers cells.now) x.now.cells }
     requires known { AreKnown P x.now.dimension known.old }
-    requires idle { (j : ℕ) → j < length x.now.cells → is_one_of waiting.old j ≡ false → ¬ IsMovableInto P (is_gone cells.now log.now.steps) (cell_at x.now.cells j) }
+    requires idle { (j : ℕ) → j < length x.now.cells → is_one_of waiting.old j ≡ false
+        → ¬ IsMovableInto P (is_gone cells.now log.now.steps) (cell_at x.now.cells j) }
     ensures known { OnOk result (AreKnown P x.now.dimension known.new) }
-    ensures some { IfOk result (λ o. IfSome o (λ m. IsMovableInto P (is_gone cells.now log.now.steps) (cell_at x.now.cells m))) }
+    ensures some { IfOk result (λ o. IfSome o
+        (λ m. IsMovableInto P (is_gone cells.now log.now.steps) (cell_at x.now.cells m))) }
     ensures member { IfOk result (λ o. IfSome o (λ m. m < length x.now.cells)) }
-    ensures rest { IfOk result (λ o. IfSome o (λ m. (j : ℕ) → j < length x.now.cells → is_one_of waiting.new j ≡ false → j ≢ m → ¬ IsMovableInto P (is_gone cells.now log.now.steps) (cell_at x.now.cells j))) }
-    ensures none { IfOk result (λ o. IfNone o ((j : ℕ) → j < length x.now.cells → ¬ IsMovableInto P (is_gone cells.now log.now.steps) (cell_at x.now.cells j))) }
+    ensures rest { IfOk result (λ o. IfSome o (λ m. (j : ℕ) → j < length x.now.cells
+        → is_one_of waiting.new j ≡ false → j ≢ m
+        → ¬ IsMovableInto P (is_gone cells.now log.now.steps) (cell_at x.now.cells j))) }
+    ensures none { IfOk result (λ o. IfNone o ((j : ℕ) → j < length x.now.cells
+        → ¬ IsMovableInto P (is_gone cells.now log.now.steps) (cell_at x.now.cells j))) }
 {
     'looking: while let Some(member) = waiting.pop() {
         if member >= x.len() {
@@ -117,8 +125,10 @@ fn next_movable<const P: u16>(
 // The owners of these cells wait.
 fn wake(owners: &Owners, numbers: &[u32], waiting: &mut Waiting) -> Result<(), AllocError>
     requires { (n : ℕ) → Contains numbers.now n → n < length owners.now }
-    ensures kept { OnOk result ((j : ℕ) → is_one_of waiting.old j ≡ true → is_one_of waiting.new j ≡ true) }
-    ensures woken { OnOk result ((n j : ℕ) → Contains numbers.now n → Names owners.now n j → is_one_of waiting.new j ≡ true) }
+    ensures kept { OnOk result ((j : ℕ) → is_one_of waiting.old j ≡ true
+        → is_one_of waiting.new j ≡ true) }
+    ensures woken { OnOk result ((n j : ℕ) → Contains numbers.now n → Names owners.now n j
+        → is_one_of waiting.new j ≡ true) }
 {
     for number in numbers {
         wake_all(owners.of_number(*number), waiting)?;
@@ -128,8 +138,10 @@ fn wake(owners: &Owners, numbers: &[u32], waiting: &mut Waiting) -> Result<(), A
 
 // These members wait.
 fn wake_all(members: &[u32], waiting: &mut Waiting) -> Result<(), AllocError>
-    ensures kept { OnOk result ((j : ℕ) → is_one_of waiting.old j ≡ true → is_one_of waiting.new j ≡ true) }
-    ensures woken { OnOk result ((j : ℕ) → Contains members.now j → is_one_of waiting.new j ≡ true) }
+    ensures kept { OnOk result ((j : ℕ) → is_one_of waiting.old j ≡ true
+        → is_one_of waiting.new j ≡ true) }
+    ensures woken { OnOk result ((j : ℕ) → Contains members.now j
+        → is_one_of waiting.new j ≡ true) }
 {
     for member in members {
         waiting.push(*member)?;

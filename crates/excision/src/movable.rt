@@ -21,8 +21,8 @@ use field_mod::Field;
 use std::alloc::{AllocError, Global};
 use std::collections::BTreeMap;
 
-// Whether a cell with faces of these numbers may be moved into the cells that are not left. What full cubes were asked for is
-// remembered by the mask of their faces that are not left.
+// Whether a cell with faces of these numbers may be moved into the cells that are not left. What
+// full cubes were asked for is remembered by the mask of their faces that are not left.
 pub(crate) fn is_movable<const P: u16>(
     alloc: Global,
     field: Field<P>,
@@ -37,7 +37,8 @@ pub(crate) fn is_movable<const P: u16>(
     requires closed { IsClosedIn cell.now (is_gone cells.now log.now.steps) }
     requires faces { faces.now ≡ face_numbers cells.now cell.now }
     requires known { AreKnown P (length cell.now) known.old }
-    ensures movable { IfOk result (λ b. IsTrue b ↔ IsMovableInto P (is_gone cells.now log.now.steps) cell.now) }
+    ensures movable { IfOk result (λ b. IsTrue b
+        ↔ IsMovableInto P (is_gone cells.now log.now.steps) cell.now) }
     ensures known { OnOk result (AreKnown P (length cell.now) known.new) }
 {
     // Its clause says that the cells are in order.
@@ -56,10 +57,11 @@ pub(crate) fn is_movable<const P: u16>(
     Ok(answer)
 }
 
-// A bit for each of these numbers, the first one highest: 1 where it is not that of a cell that is left. There is no mask where
-// the bits are too many.
+// A bit for each of these numbers, the first one highest: 1 where it is not that of a cell that is
+// left. There is no mask where the bits are too many.
 fn mask_of<const P: u16>(log: &Log<P>, faces: &[u32]) -> Option<u64>
-    ensures { IfSome result (λ mask. mask_from 0 (is_taken (length log.now.complex.boundaries) log.now.steps) faces.now ≡ mask) }
+    ensures { IfSome result (λ mask. mask_from 0
+        (is_taken (length log.now.complex.boundaries) log.now.steps) faces.now ≡ mask) }
 {
     let mut mask = 0u64;
     for face in faces {
@@ -86,7 +88,8 @@ fn is_movable_now<const P: u16>(
     requires range { list_all is_file_factor cell.now ≡ true }
     requires complex { IsComplexOf P cells.now log.now.complex }
     requires closed { IsClosedIn cell.now (is_gone cells.now log.now.steps) }
-    ensures { IfOk result (λ b. IsTrue b ↔ IsMovableInto P (is_gone cells.now log.now.steps) cell.now) }
+    ensures { IfOk result (λ b. IsTrue b
+        ↔ IsMovableInto P (is_gone cells.now log.now.steps) cell.now) }
 {
     if is_gone(log, cells, cell) {
         return Ok(false);
@@ -105,7 +108,8 @@ fn are_acyclic<const P: u16>(
     requires range { list_all is_file_factor cell.now ≡ true }
     requires complex { IsComplexOf P cells.now log.now.complex }
     requires closed { IsClosedIn cell.now (is_gone cells.now log.now.steps) }
-    ensures { IfOk result (λ b. IsTrue b ↔ IsAcyclic P (cells_in (is_gone cells.now log.now.steps) cell.now)) }
+    ensures { IfOk result (λ b. IsTrue b
+        ↔ IsAcyclic P (cells_in (is_gone cells.now log.now.steps) cell.now)) }
 {
     let gone = gone_faces(alloc, log, cells, cell)?;
     let _ = gone.len();
@@ -121,7 +125,8 @@ fn gone_faces<const P: u16>(
 ) -> Result<Numbered, AllocError>
     requires range { list_all is_file_factor cell.now ≡ true }
     requires complex { IsComplexOf P cells.now log.now.complex }
-    ensures { IfOk result (λ n. (c : List Factor) → has cell_cmp n c ≡ has cell_cmp (cells_in (is_gone cells.now log.now.steps) cell.now) c) }
+    ensures { IfOk result (λ n. (c : List Factor)
+        → has cell_cmp n c ≡ has cell_cmp (cells_in (is_gone cells.now log.now.steps) cell.now) c) }
 {
     let dimension = cell.embedding() as u8;
     let mut gone = Vec::new(alloc);
@@ -141,7 +146,8 @@ pub(crate) fn left_numbers<const P: u16>(
     log: &Log<P>,
     faces: &[u32],
 ) -> Result<Vec<u32>, AllocError>
-    ensures { IfOk result (λ v. v.items ≡ filter (λ n. not (is_taken (length log.now.complex.boundaries) log.now.steps n)) faces.now) }
+    ensures { IfOk result (λ v. v.items ≡ filter
+        (λ n. not (is_taken (length log.now.complex.boundaries) log.now.steps n)) faces.now) }
 {
     let mut numbers = Vec::with_capacity(alloc, faces.len())?;
     for face in faces {

@@ -11,7 +11,8 @@ use smallvec::SmallVec;
 use std::alloc::{AllocError, Global};
 use std::marker::Model;
 
-/// For each number of a cell a list of numbers, such as the places of the members that have it; seen as these lists.
+/// For each number of a cell a list of numbers, such as the places of the members that have it;
+/// seen as these lists.
 #[derive(Drop)]
 pub struct Owners {
     lists: Vec<SmallVec<u32, 4>>,
@@ -68,7 +69,8 @@ impl Owners {
     fn add(&mut self, numbers: &[u32], member: u32) -> Result<(), AllocError>
         ensures count { OnOk result (length self.new ≡ length self.old) }
         ensures kept { OnOk result ((n j : ℕ) → Names self.old n j → Names self.new n j) }
-        ensures added { OnOk result ((n : ℕ) → Contains numbers.now n → n < length self.old → Names self.new n member) }
+        ensures added { OnOk result ((n : ℕ) → Contains numbers.now n → n < length self.old
+            → Names self.new n member) }
     {
         for number in numbers {
             if *number as usize >= self.len() {
@@ -85,7 +87,8 @@ impl Owners {
         ensures count { OnOk result (length self.new ≡ length self.old) }
         ensures kept { OnOk result ((n j : ℕ) → Names self.old n j → Names self.new n j) }
         ensures added { OnOk result (Names self.new number member) }
-        ensures only { OnOk result ((n j : ℕ) → Names self.new n j → Names self.old n j ⊎ ((n ≡ number) × (j ≡ member))) }
+        ensures only { OnOk result ((n j : ℕ) → Names self.new n j → Names self.old n j
+            ⊎ ((n ≡ number) × (j ≡ member))) }
     {
         self.lists[number as usize].push(member)?;
         Ok(())

@@ -11,8 +11,8 @@ use algebraic_reduction::Log;
 use field_mod::Field;
 use std::alloc::{AllocError, Global};
 
-/// Further steps by pairs of these generators, until what is left of the boundary of each is 0. What is left of the boundary
-/// of each is on them at the start. Each generator has its turn once.
+/// Further steps by pairs of these generators, until what is left of the boundary of each is 0.
+/// What is left of the boundary of each is on them at the start. Each generator has its turn once.
 pub fn reduce_part<const P: u16>(
     alloc: Global,
     field: Field<P>,
@@ -22,8 +22,10 @@ pub fn reduce_part<const P: u16>(
     requires inside { (n : ℕ) → Contains part.now n → n < length log.complex.boundaries }
     requires closed { IsClosedPart P (left_of P log.complex log.steps) (is_one_of part.now) }
     ensures complex { IfOk result (λ l. l.complex ≡ log.entry.complex) }
-    ensures further { IfOk result (λ l. AreFurtherWithin (is_one_of part.now) log.entry.steps l.steps) }
-    ensures nothing_left { IfOk result (λ l. (h g : ℕ) → Contains part.now h → Same P (left_of P l.complex l.steps h g) 0) }
+    ensures further { IfOk result (λ l. AreFurtherWithin (is_one_of part.now) log.entry.steps
+        l.steps) }
+    ensures nothing_left { IfOk result (λ l. (h g : ℕ) → Contains part.now h
+        → Same P (left_of P l.complex l.steps h g) 0) }
 {
     let mut log = log;
     for i in 0..part.len() {

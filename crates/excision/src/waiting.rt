@@ -6,7 +6,8 @@ use std::alloc::{AllocError, Global};
 use std::collections::VecDeque;
 use std::marker::Model;
 
-/// Numbers that wait for their turn, each once, the one that came first in front. They are seen as their list.
+/// Numbers that wait for their turn, each once, the one that came first in front. They are seen as
+/// their list.
 #[derive(Drop)]
 pub struct Waiting {
     numbers: VecDeque<u32>,
@@ -41,7 +42,8 @@ impl Waiting {
 
     /// One more number waits.
     pub fn push(&mut self, number: u32) -> Result<(), AllocError>
-        ensures kept { OnOk result ((n : ℕ) → is_one_of self.old n ≡ true → is_one_of self.new n ≡ true) }
+        ensures kept { OnOk result ((n : ℕ) → is_one_of self.old n ≡ true
+            → is_one_of self.new n ≡ true) }
         ensures added { OnOk result (is_one_of self.new number ≡ true) }
     {
         if is_marked(&self.marks, number) {
@@ -54,7 +56,8 @@ impl Waiting {
 
     /// The number in front, which then does not wait.
     pub fn pop(&mut self) -> Option<u32>
-        ensures kept { IfSome result (λ i. (n : ℕ) → is_one_of self.old n ≡ true → (n ≡ i) ⊎ (is_one_of self.new n ≡ true)) }
+        ensures kept { IfSome result (λ i. (n : ℕ) → is_one_of self.old n ≡ true → (n ≡ i)
+            ⊎ (is_one_of self.new n ≡ true)) }
         ensures fewer { IfSome result (λ i. length self.new < length self.old) }
         ensures none { IfNone result ((n : ℕ) → is_one_of self.old n ≡ false) }
     {
@@ -79,7 +82,8 @@ fn is_marked(marks: &[bool], number: u32) -> bool
 
 // Marks a number that has a mark.
 fn mark(marks: &mut Vec<bool>, number: u32)
-    ensures { (n : ℕ) → slice_index_or marks.new.items n false ≡ true → (n ≡ number) ⊎ (slice_index_or marks.old.items n false ≡ true) }
+    ensures { (n : ℕ) → slice_index_or marks.new.items n false ≡ true → (n ≡ number)
+        ⊎ (slice_index_or marks.old.items n false ≡ true) }
 {
     let place = number as usize;
     if place < marks.len() {
@@ -88,7 +92,8 @@ fn mark(marks: &mut Vec<bool>, number: u32)
 }
 
 fn unmark(marks: &mut Vec<bool>, number: u32)
-    ensures { (n : ℕ) → slice_index_or marks.new.items n false ≡ true → (n ≢ number) × (slice_index_or marks.old.items n false ≡ true) }
+    ensures { (n : ℕ) → slice_index_or marks.new.items n false ≡ true → (n ≢ number)
+        × (slice_index_or marks.old.items n false ≡ true) }
 {
     let place = number as usize;
     if place < marks.len() {

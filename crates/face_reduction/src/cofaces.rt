@@ -40,8 +40,10 @@ fn add_coface<const P: u16>(
     requires { (n : ℕ) → coefficient boundary.now n ≢ 0 → n < length cofaces.old }
     ensures count { OnOk result (length cofaces.new ≡ length cofaces.old) }
     ensures kept { OnOk result ((n j : ℕ) → Names cofaces.old n j → Names cofaces.new n j) }
-    ensures added { OnOk result ((n : ℕ) → coefficient boundary.now n ≢ 0 → Names cofaces.new n coface) }
-    ensures only { OnOk result ((n j : ℕ) → Names cofaces.new n j → Names cofaces.old n j ⊎ ((coefficient boundary.now n ≢ 0) × (j ≡ coface))) }
+    ensures added { OnOk result ((n : ℕ) → coefficient boundary.now n ≢ 0
+        → Names cofaces.new n coface) }
+    ensures only { OnOk result ((n j : ℕ) → Names cofaces.new n j → Names cofaces.old n j
+        ⊎ ((coefficient boundary.now n ≢ 0) × (j ≡ coface))) }
 {
     for place in 0..boundary.len() {
         let (face, _) = boundary.term(place);
@@ -55,8 +57,10 @@ pub(crate) fn wake_faces<const P: u16>(
     boundary: &Chain<P>,
     waiting: &mut Front,
 ) -> Result<(), AllocError>
-    ensures kept { OnOk result ((k : ℕ) → is_one_of waiting.old k ≡ true → is_one_of waiting.new k ≡ true) }
-    ensures woken { OnOk result ((k : ℕ) → coefficient boundary.now k ≢ 0 → is_one_of waiting.new k ≡ true) }
+    ensures kept { OnOk result ((k : ℕ) → is_one_of waiting.old k ≡ true
+        → is_one_of waiting.new k ≡ true) }
+    ensures woken { OnOk result ((k : ℕ) → coefficient boundary.now k ≢ 0
+        → is_one_of waiting.new k ≡ true) }
 {
     for place in 0..boundary.len() {
         let (face, _) = boundary.term(place);

@@ -14,12 +14,14 @@ use elem_cubes::Cell;
 use field_mod::Field;
 use std::alloc::{AllocError, Global};
 
-/// Further steps by free pairs, until no pair of the cells that are left is free. The first steps of the log take exactly
-/// the faces of some cubes, and the later ones take free pairs. A cell is looked at at first, and again after a pair was taken
-/// that had it as a facet. Where memory is wanting the log is consumed.
+/// Further steps by free pairs, until no pair of the cells that are left is free. The first steps
+/// of the log take exactly the faces of some cubes, and the later ones take free pairs. A cell is
+/// looked at at first, and again after a pair was taken that had it as a facet. Where memory is
+/// wanting the log is consumed.
 ///
-/// In the plane what comes to be free is taken before the next free face: so borders of holes stay whole, and cycles that go
-/// round them are short. In higher dimensions that leaves far more cells, and what comes to be free waits behind the others.
+/// In the plane what comes to be free is taken before the next free face: so borders of holes stay
+/// whole, and cycles that go round them are short. In higher dimensions that leaves far more cells,
+/// and what comes to be free waits behind the others.
 pub fn collapse<const P: u16>(
     alloc: Global,
     field: Field<P>,
@@ -49,7 +51,8 @@ fn lie_in_plane(cells: &Numbered) -> bool {
     cells.len() > 0 && cells.cell(0).embedding() <= 2
 }
 
-/// One more step for each of these pairs, each of which is free at its turn. Where memory is wanting the log is consumed.
+/// One more step for each of these pairs, each of which is free at its turn. Where memory is
+/// wanting the log is consumed.
 pub fn take_pairs<const P: u16>(
     log: Log<P>,
     field: Field<P>,

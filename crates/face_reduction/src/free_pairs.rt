@@ -14,7 +14,8 @@ use algebraic_reduction::Log;
 use cell_complex::Numbered;
 use excision::Owners;
 
-// The number of the one cell that is left and has the cell of this number as a facet, where that is left.
+// The number of the one cell that is left and has the cell of this number as a facet, where that is
+// left.
 fn free_coface<const P: u16>(
     log: &Log<P>,
     cells: &Numbered,
@@ -26,7 +27,8 @@ fn free_coface<const P: u16>(
     requires cofaces { AreCofaces cells.now cofaces.now }
     requires face { face < length cells.now }
     ensures some { IfSome result (IsFreeNumber cells.now log.now.steps face) }
-    ensures none { IfNone result ((b : List Factor) → ¬ IsFreePair (is_left cells.now log.now.steps) (cell_at cells.now face) b) }
+    ensures none { IfNone result ((b : List Factor) → ¬ IsFreePair (is_left cells.now log.now.steps)
+        (cell_at cells.now face) b) }
 {
     // Its clauses say that the cells are in order.
     let _ = cells.len();
@@ -50,8 +52,8 @@ fn free_coface<const P: u16>(
     found
 }
 
-// The first waiting face of a free pair, with its coface. Those before it wait no more; none of the others that do not wait is
-// the face of a free pair.
+// The first waiting face of a free pair, with its coface. Those before it wait no more; none of the
+// others that do not wait is the face of a free pair.
 pub(crate) fn next_free<const P: u16>(
     log: &Log<P>,
     cells: &Numbered,
@@ -61,11 +63,15 @@ pub(crate) fn next_free<const P: u16>(
     requires complex { IsComplexOf P cells.now log.now.complex }
     requires count { length cofaces.now ≡ length cells.now }
     requires cofaces { AreCofaces cells.now cofaces.now }
-    requires idle { (k : ℕ) → k < length cells.now → is_one_of waiting.old k ≡ false → ¬ IsFreeFace (is_left cells.now log.now.steps) (cell_at cells.now k) }
+    requires idle { (k : ℕ) → k < length cells.now → is_one_of waiting.old k ≡ false
+        → ¬ IsFreeFace (is_left cells.now log.now.steps) (cell_at cells.now k) }
     ensures inside { IfSome result (λ t. t.0 < length cells.now) }
     ensures some { IfSome result (λ t. IsFreeNumber cells.now log.now.steps t.0 t.1) }
-    ensures rest { IfSome result (λ t. (k : ℕ) → k < length cells.now → is_one_of waiting.new k ≡ false → k ≢ t.0 → ¬ IsFreeFace (is_left cells.now log.now.steps) (cell_at cells.now k)) }
-    ensures none { IfNone result ((k : ℕ) → k < length cells.now → ¬ IsFreeFace (is_left cells.now log.now.steps) (cell_at cells.now k)) }
+    ensures rest { IfSome result (λ t. (k : ℕ) → k < length cells.now
+        → is_one_of waiting.new k ≡ false → k ≢ t.0 → ¬ IsFreeFace (is_left cells.now log.now.steps)
+        (cell_at cells.now k)) }
+    ensures none { IfNone result ((k : ℕ) → k < length cells.now
+        → ¬ IsFreeFace (is_left cells.now log.now.steps) (cell_at cells.now k)) }
     ensures sorted { IsSortedCells cells.now }
 {
     let _ = cells.len();

@@ -6,8 +6,8 @@ use std::alloc::{AllocError, Global};
 use std::collections::VecDeque;
 use std::marker::Model;
 
-/// Numbers that wait for their turn: one more comes in front of all others, or behind them. A number
-/// may stand more than once. They are seen as their list.
+/// Numbers that wait for their turn: one more comes in front of all others, or behind them. A
+/// number may stand more than once. They are seen as their list.
 #[derive(Drop)]
 pub(crate) struct Front {
     numbers: VecDeque<u32>,
@@ -39,7 +39,8 @@ impl Front {
 
     /// One more number waits, before all others or behind them.
     pub(crate) fn push(&mut self, number: u32) -> Result<(), AllocError>
-        ensures kept { OnOk result ((n : ℕ) → is_one_of self.old n ≡ true → is_one_of self.new n ≡ true) }
+        ensures kept { OnOk result ((n : ℕ) → is_one_of self.old n ≡ true
+            → is_one_of self.new n ≡ true) }
         ensures added { OnOk result (is_one_of self.new number ≡ true) }
     {
         if self.newest_first {
@@ -52,7 +53,8 @@ impl Front {
 
     /// The number in front, which then does not wait unless it stands a further time.
     pub(crate) fn pop(&mut self) -> Option<u32>
-        ensures kept { IfSome result (λ i. (n : ℕ) → is_one_of self.old n ≡ true → (n ≡ i) ⊎ (is_one_of self.new n ≡ true)) }
+        ensures kept { IfSome result (λ i. (n : ℕ) → is_one_of self.old n ≡ true → (n ≡ i)
+            ⊎ (is_one_of self.new n ≡ true)) }
         ensures fewer { IfSome result (λ i. length self.new < length self.old) }
         ensures none { IfNone result ((n : ℕ) → is_one_of self.old n ≡ false) }
     {

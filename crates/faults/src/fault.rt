@@ -77,8 +77,8 @@ pub enum Fault {
     EmptyValue {
         cell: Cell,
     },
-    /// The value of a map at this cell is not acyclic, in this degree first: in it there are a cycle
-    /// and a cocycle whose product is 1. They are one such pair of many.
+    /// The value of a map at this cell is not acyclic, in this degree first: in it there are a
+    /// cycle and a cocycle whose product is 1. They are one such pair of many.
     #[error("map: a value is not acyclic in degree {degree}")]
     NotAcyclic {
         cell: Cell,

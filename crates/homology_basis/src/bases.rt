@@ -11,9 +11,9 @@ use field_mod::Field;
 use std::alloc::{AllocError as NoMemory, Global};
 use std::marker::Model;
 
-/// A basis of the homology of a complex in each degree, with the cocycles dual to it and the contraction of the complex to
-/// it. It keeps the log from which it was made, and is seen as the log's complex and steps and the cycles and cocycles by
-/// degree.
+/// A basis of the homology of a complex in each degree, with the cocycles dual to it and the
+/// contraction of the complex to it. It keeps the log from which it was made, and is seen as the
+/// log's complex and steps and the cycles and cocycles by degree.
 #[derive(Drop)]
 pub struct Basis<const P: u16> {
     pub(crate) log: Log<P>,
@@ -26,9 +26,17 @@ impl<const P: u16> Model for Basis<P> {
 
     ghost Value = { BasisOfLog };
 
-    ghost view = { λ b. record { log = b.log; cycles = cycles_of b.classes; cocycles = cocycles_of b.classes } };
+    ghost view = { λ b. record {
+      log = b.log;
+      cycles = cycles_of b.classes;
+      cocycles = cocycles_of b.classes;
+    } };
 
-    ghost invariant = { λ b. IsBasisWithContraction P (record { log = b.log; cycles = cycles_of b.classes; cocycles = cocycles_of b.classes }) };
+    ghost invariant = { λ b. IsBasisWithContraction P (record {
+      log = b.log;
+      cycles = cycles_of b.classes;
+      cocycles = cocycles_of b.classes;
+    }) };
 }
 
 impl<const P: u16> Basis<P> {
@@ -39,7 +47,8 @@ impl<const P: u16> Basis<P> {
         self.log.complex()
     }
 
-    /// The dimension of the homology in a degree: the number of cycles. Its clauses hand out what a basis is.
+    /// The dimension of the homology in a degree: the number of cycles. Its clauses hand out what a
+    /// basis is.
     pub fn dimension(&self, k: u8) -> u32
         ensures dimension { result ≡ length (in_degree self.now.cycles k) }
         ensures basis { IsBasisWithContraction P self.now }
@@ -71,7 +80,8 @@ impl<const P: u16> Basis<P> {
         generator: u32,
     ) -> Result<Chain<P>, NoMemory>
         requires { generator < length self.now.log.complex.boundaries }
-        ensures { IfOk result (λ c. (x : ℕ) → Same P (coefficient c x) (homotopy_in P self.now generator x)) }
+        ensures { IfOk result (λ c. (x : ℕ)
+            → Same P (coefficient c x) (homotopy_in P self.now generator x)) }
     {
         let single = Chain::from_terms(alloc, field, &[(generator, 1)])?;
         let row = self.log.homotopy(alloc, field, &single)?;

@@ -30,8 +30,9 @@ impl<const P: u16> Model for Class<P> {
 }
 
 impl<const P: u16> Class<P> {
-    /// The class of a generator that is left: its inclusion, divided by the first coefficient, and where it is wanted the
-    /// transposed projection of the generator times that coefficient, the cocycle. Where it is not wanted that is empty.
+    /// The class of a generator that is left: its inclusion, divided by the first coefficient, and
+    /// where it is wanted the transposed projection of the generator times that coefficient, the
+    /// cocycle. Where it is not wanted that is empty.
     pub(crate) fn of(
         alloc: Global,
         field: Field<P>,
@@ -85,8 +86,12 @@ fn cocycle_of<const P: u16>(
 ) -> Result<Chain<P>, AllocError>
     requires { scale < P }
     ensures normal { IfOk result (IsNormal P) }
-    ensures inside { IfOk result (λ c. IsTrue wanted → (h : ℕ) → h < length log.now.complex.boundaries → Same P (coefficient c h) (scale * total (length log.now.complex.boundaries) (λ t. coefficient single.now t * project_of P log.now.complex log.now.steps (one h) t))) }
-    ensures past { IfOk result (λ c. IsTrue wanted → (h : ℕ) → length log.now.complex.boundaries ≤ h → Same P (coefficient c h) (scale * coefficient single.now h)) }
+    ensures inside { IfOk result (λ c. IsTrue wanted → (h : ℕ)
+        → h < length log.now.complex.boundaries
+        → Same P (coefficient c h) (scale * total (length log.now.complex.boundaries)
+        (λ t. coefficient single.now t * project_of P log.now.complex log.now.steps (one h) t))) }
+    ensures past { IfOk result (λ c. IsTrue wanted → (h : ℕ) → length log.now.complex.boundaries ≤ h
+        → Same P (coefficient c h) (scale * coefficient single.now h)) }
 {
     if !wanted {
         return Ok(Chain::empty(alloc));
@@ -105,7 +110,8 @@ fn scaled<const P: u16>(
 ) -> Result<Chain<P>, AllocError>
     requires { scale < P }
     ensures normal { IfOk result (IsNormal P) }
-    ensures value { IfOk result (λ c. (g : ℕ) → coefficient c g ≡ (scale * coefficient chain.entry g) % P) }
+    ensures value { IfOk result (λ c. (g : ℕ)
+        → coefficient c g ≡ (scale * coefficient chain.entry g) % P) }
 {
     if chain.is_empty() {
         return Ok(chain);

@@ -27,7 +27,8 @@ impl<const P: u16> Model for Classes<P> {
 }
 
 impl<const P: u16> Classes<P> {
-    /// The classes of all generators that the steps of a log leave, with cocycles where these are wanted.
+    /// The classes of all generators that the steps of a log leave, with cocycles where these are
+    /// wanted.
     pub(crate) fn of(
         alloc: Global,
         field: Field<P>,
@@ -65,7 +66,9 @@ impl<const P: u16> Classes<P> {
 
     // One more class of a degree, after the others.
     fn insert(&mut self, alloc: Global, degree: u8, class: Class<P>) -> Result<(), AllocError>
-        ensures { OnOk result ((k : ℕ) → in_degree self.new k ≡ (if k == degree then in_degree self.old k ++ class.entry ∷ [] else in_degree self.old k)) }
+        ensures { OnOk result ((k : ℕ)
+            → in_degree self.new k ≡ (if k == degree then in_degree self.old k ++ class.entry
+            ∷ [] else in_degree self.old k)) }
     {
         let place = usize::from(degree);
         self.make_room(alloc, place)?;

@@ -7,8 +7,8 @@ use algebraic_reduction::Log;
 use chains::{Chain, Complex};
 use std::marker::Model;
 
-/// A basis of the homology of a complex in each degree, by cycles alone. It keeps the log from which it was made, and is
-/// seen as the log's complex and steps and the cycles by degree.
+/// A basis of the homology of a complex in each degree, by cycles alone. It keeps the log from
+/// which it was made, and is seen as the log's complex and steps and the cycles by degree.
 #[derive(Drop)]
 pub struct CycleBasis<const P: u16> {
     pub(crate) log: Log<P>,
@@ -23,7 +23,10 @@ impl<const P: u16> Model for CycleBasis<P> {
 
     ghost view = { λ b. record { log = b.log; cycles = cycles_of b.classes } };
 
-    ghost invariant = { λ b. IsBasisByCycles P (record { log = b.log; cycles = cycles_of b.classes }) };
+    ghost invariant = { λ b. IsBasisByCycles P (record {
+      log = b.log;
+      cycles = cycles_of b.classes;
+    }) };
 }
 
 impl<const P: u16> CycleBasis<P> {
@@ -34,7 +37,8 @@ impl<const P: u16> CycleBasis<P> {
         self.log.complex()
     }
 
-    /// The dimension of the homology in a degree: the number of cycles. Its clauses hand out what the basis is.
+    /// The dimension of the homology in a degree: the number of cycles. Its clauses hand out what
+    /// the basis is.
     pub fn dimension(&self, k: u8) -> u32
         ensures dimension { result ≡ length (in_degree self.now.cycles k) }
         ensures basis { IsBasisByCycles P self.now }

@@ -1,5 +1,5 @@
-//! Pairs of sets prepared: excised, grown, collapsed and reduced; and bases of homology from their logs: cycles, the cocycles
-//! dual to them, and the contraction.
+//! Pairs of sets prepared: excised, grown, collapsed and reduced; and bases of homology from their
+//! logs: cycles, the cocycles dual to them, and the contraction.
 #![tactic(auto)]
 
 mod bases;

@@ -10,8 +10,9 @@ use algebraic_reduction::Log;
 use field_mod::Field;
 use std::alloc::{AllocError as NoMemory, Global};
 
-/// The basis that a log gives in which no boundary is left. Its cycle of number j in degree k is the inclusion of the j-th
-/// generator of degree k that is left, by ascending number, times the inverse of its first coefficient.
+/// The basis that a log gives in which no boundary is left. Its cycle of number j in degree k is
+/// the inclusion of the j-th generator of degree k that is left, by ascending number, times the
+/// inverse of its first coefficient.
 pub fn basis<const P: u16>(
     alloc: Global,
     field: Field<P>,
@@ -50,7 +51,8 @@ pub fn cycle_basis<const P: u16>(
     requires { NothingLeft P log.complex log.steps }
     ensures log { IfOk result (λ b. b.log ≡ log.entry) }
     ensures basis { IfOk result (IsBasisByCycles P) }
-    ensures same { IfOk result (λ b. (c : BasisOfLog) → c.log ≡ log.entry → IsBasisWithContraction P c → (k : ℕ) → in_degree b.cycles k ≡ in_degree c.cycles k) }
+    ensures same { IfOk result (λ b. (c : BasisOfLog) → c.log ≡ log.entry
+        → IsBasisWithContraction P c → (k : ℕ) → in_degree b.cycles k ≡ in_degree c.cycles k) }
 {
     let classes = Classes::of(alloc, field, &log, false)?;
     Ok(CycleBasis { log, classes })

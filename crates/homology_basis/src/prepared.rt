@@ -21,8 +21,8 @@ use face_reduction::collapse;
 use field_mod::Field;
 use std::alloc::{AllocError, Global};
 
-/// The relative cells of a pair, the cubes of a growth, the cells that a collapse leaves, and a log of the complex of the cells
-/// in which no boundary is left.
+/// The relative cells of a pair, the cubes of a growth, the cells that a collapse leaves, and a log
+/// of the complex of the cells in which no boundary is left.
 #[derive(Drop)]
 pub struct Prepared<const P: u16> {
     /// The relative cells, whose numbers are the generators of the complex.
@@ -35,22 +35,26 @@ pub struct Prepared<const P: u16> {
     pub log: Log<P>,
 }
 
-/// Excises, numbers the relative cells, grows the subset, collapses, and reduces until no boundary is left. `TooManyCells`
-/// comes exactly where `x` and those members of `a` that touch it have more than `CELLS` cells.
+/// Excises, numbers the relative cells, grows the subset, collapses, and reduces until no boundary
+/// is left. `TooManyCells` comes exactly where `x` and those members of `a` that touch it have more
+/// than `CELLS` cells.
 pub fn prepare<const P: u16>(
     alloc: Global,
     field: Field<P>,
     x: &CubeSet,
     a: &CubeSet,
 ) -> Result<Prepared<P>, CellsFault>
-    ensures complex { IfOk result (λ r. IsRelativeComplex P x.now.cells a.now.cells r.cells r.log.complex) }
+    ensures complex { IfOk result (λ r. IsRelativeComplex P x.now.cells a.now.cells r.cells
+        r.log.complex) }
     ensures grown { IfOk result (λ r. IsFinishedGrowth P x.now.cells a.now.cells r.grown) }
-    ensures left { IfOk result (λ r. CollapsesTo (is_relative x.now.cells (a.now.cells ++ r.grown)) (has cell_cmp r.left)) }
+    ensures left { IfOk result (λ r. CollapsesTo (is_relative x.now.cells (a.now.cells ++ r.grown))
+        (has cell_cmp r.left)) }
     ensures none_free { IfOk result (λ r. HasNoFreePair (has cell_cmp r.left)) }
     ensures sorted { IfOk result (λ r. IsStrictlySortedBy cell_cmp r.left) }
     ensures nothing_left { IfOk result (λ r. NothingLeft P r.log.complex r.log.steps) }
     ensures few { OnOk result (cell_count (x.now.cells ++ (excised x.now a.now).cells) ≤ CELLS) }
-    ensures many { result ≡ Err CellsFault.TooManyCells → CELLS < cell_count (x.now.cells ++ (excised x.now a.now).cells) }
+    ensures many { result ≡ Err CellsFault.TooManyCells
+        → CELLS < cell_count (x.now.cells ++ (excised x.now a.now).cells) }
 {
     let near = excise(alloc, x, a)?;
     let cells = relative(alloc, x, &near)?;
@@ -76,7 +80,8 @@ fn left_cells<const P: u16>(
     cells: &Numbered,
 ) -> Result<CellList, AllocError>
     requires { IsComplexOf P cells.now log.now.complex }
-    ensures left { IfOk result (λ l. (c : List Factor) → has cell_cmp l c ≡ is_left cells.now log.now.steps c) }
+    ensures left { IfOk result (λ l. (c : List Factor)
+        → has cell_cmp l c ≡ is_left cells.now log.now.steps c) }
     ensures sorted { IfOk result (λ l. IsStrictlySortedBy cell_cmp l) }
 {
     let mut left = CellList::new(alloc);

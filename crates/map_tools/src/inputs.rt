@@ -73,8 +73,8 @@ fn all_of(
     Ok(MapAndSets { map, x, y })
 }
 
-/// The map and the sets of full cubes of three files, where all known dimensions are equal: the file
-/// of the map, then that of its domain, then that of its range.
+/// The map and the sets of full cubes of three files, where all known dimensions are equal: the
+/// file of the map, then that of its domain, then that of its range.
 pub fn load_map_and_sets<F: Files>(
     alloc: Global,
     files: &mut F,

@@ -48,8 +48,8 @@ impl Errors {
         }
     }
 
-    /// The answer of a write of some bytes, which is to take at least one. An error counts once, and
-    /// so does a write that took nothing.
+    /// The answer of a write of some bytes, which is to take at least one. An error counts once,
+    /// and so does a write that took nothing.
     pub(crate) fn hear_write(&mut self, answer: io::Result<usize>) -> Result<usize, Failed>
         ensures ok { IfOk result (λ n. (answer ≡ Ok n) × (0 < n)) }
         ensures err { OnErr result (TakesNothing answer) }

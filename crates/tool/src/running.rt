@@ -14,8 +14,8 @@ use faults::{Fault, Status};
 use outside::{Files, Sink};
 use std::alloc::Global;
 
-/// Does what is asked, and writes the answer to `out` or one line on a fault to `err`. All is read and
-/// computed before the first write.
+/// Does what is asked, and writes the answer to `out` or one line on a fault to `err`. All is read
+/// and computed before the first write.
 pub fn run<T: Tool, F: Files, O: Sink, E: Sink>(
     alloc: Global,
     tool: &T,
