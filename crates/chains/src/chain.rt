@@ -9,9 +9,10 @@ use smallvec::SmallVec;
 use std::alloc::{AllocError, Global};
 use std::marker::Model;
 
-/// A chain over the numbers modulo `P`: a finite map from generators to coefficients from 1 to `P - 1`. It is seen as
-/// the list of its terms by ascending generator, so that equal chains are equal lists. Each call that reads it says that
-/// the list is in this normal form. It takes 24 bytes; a chain of at most four terms makes no allocation.
+/// A chain over the numbers modulo `P`: a finite map from generators to coefficients from 1 to
+/// `P - 1`. It is seen as the list of its terms by ascending generator, so that equal chains are
+/// equal lists. Each call that reads it says that the list is in this normal form. It takes 24
+/// bytes; a chain of at most four terms makes no allocation.
 #[derive(Drop)]
 pub struct Chain<const P: u16> {
     packed: Packed,
@@ -40,8 +41,8 @@ impl<const P: u16> Chain<P> {
         }
     }
 
-    /// The sum of the terms, each a generator and a number that is read modulo `P`: numbers beside the same generator
-    /// are added, and a generator whose sum is 0 has no term.
+    /// The sum of the terms, each a generator and a number that is read modulo `P`: numbers beside
+    /// the same generator are added, and a generator whose sum is 0 has no term.
     pub fn from_terms(
         alloc: Global,
         field: Field<P>,
@@ -68,7 +69,8 @@ impl<const P: u16> Chain<P> {
         Ok(Chain { packed, alloc })
     }
 
-    /// Adds `scale` times the other chain, for a number `scale` below `P`. Where memory is wanting the chain stays as it was.
+    /// Adds `scale` times the other chain, for a number `scale` below `P`. Where memory is wanting
+    /// the chain stays as it was.
     pub fn add_scaled(
         &mut self,
         field: Field<P>,
@@ -77,7 +79,9 @@ impl<const P: u16> Chain<P> {
     ) -> Result<(), AllocError>
         requires { scale < P }
         ensures normal { IsNormal P self.new }
-        ensures sum { OnOk result ((g : ℕ) → coefficient self.new g ≡ (coefficient self.old g + scale * coefficient other.now g) % P) }
+        ensures sum { OnOk result ((g : ℕ)
+            → coefficient self.new g
+            ≡ (coefficient self.old g + scale * coefficient other.now g) % P) }
         ensures err { OnErr result (self.new ≡ self.old) }
     {
         let left = self.packed.open();

@@ -12,8 +12,9 @@ use std::alloc::{AllocError, Global};
 use std::marker::Model;
 use thiserror::Error;
 
-/// A chain complex over the numbers modulo `P`, with the generators `0` to `len - 1`: the degree of each, and its
-/// boundary, a chain of generators of one degree less; the boundary of a boundary is 0.
+/// A chain complex over the numbers modulo `P`, with the generators `0` to `len - 1`: the degree of
+/// each, and its boundary, a chain of generators of one degree less; the boundary of a boundary is
+/// 0.
 #[derive(Drop)]
 pub struct Complex<const P: u16> {
     degrees: Vec<u8>,
@@ -27,7 +28,10 @@ impl<const P: u16> Model for Complex<P> {
 
     ghost view = { λ c. record { degrees = c.degrees.items; boundaries = c.boundaries.items } };
 
-    ghost invariant = { λ c. IsComplex P (record { degrees = c.degrees.items; boundaries = c.boundaries.items }) };
+    ghost invariant = { λ c. IsComplex P (record {
+      degrees = c.degrees.items;
+      boundaries = c.boundaries.items;
+    }) };
 }
 
 /// Why degrees and boundaries are no chain complex.
@@ -46,10 +50,12 @@ pub enum ComplexFault {
 impl<const P: u16> Complex<P> {
     ghost use Rattle.chains.specs.Refusal.{IsRefusal};
 
-    /// The complex with these degrees and boundaries, one of each for each generator, and fewer than 2^32 of them.
+    /// The complex with these degrees and boundaries, one of each for each generator, and fewer
+    /// than 2^32 of them.
     ///
-    /// `BadDegree` comes exactly where a boundary names a generator that is absent or not of one degree less; else
-    /// `NotZero` exactly where the boundary of a boundary is not 0. Each is the first by generator, then by place.
+    /// `BadDegree` comes exactly where a boundary names a generator that is absent or not of one
+    /// degree less; else `NotZero` exactly where the boundary of a boundary is not 0. Each is the
+    /// first by generator, then by place.
     pub fn new(
         alloc: Global,
         field: Field<P>,
@@ -58,7 +64,8 @@ impl<const P: u16> Complex<P> {
     ) -> Result<Self, ComplexFault>
         requires sizes { vec_len degrees ≡ vec_len boundaries }
         requires short { vec_len boundaries < 2 ^ 32 }
-        ensures ok { IfOk result (λ c. (c.degrees ≡ degrees.items) × (c.boundaries ≡ boundaries.entry.items) × IsComplex P c) }
+        ensures ok { IfOk result (λ c. (c.degrees ≡ degrees.items)
+            × (c.boundaries ≡ boundaries.entry.items) × IsComplex P c) }
         ensures err { IfErr result (IsRefusal P degrees.items boundaries.entry.items) }
     {
         if let Some((generator, at)) = first_bad_degree(&degrees, &boundaries) {
@@ -78,7 +85,8 @@ impl<const P: u16> Complex<P> {
         Ok(Complex::of(degrees, boundaries))
     }
 
-    /// The complex with these degrees and boundaries, which are known to be a complex. It takes no memory.
+    /// The complex with these degrees and boundaries, which are known to be a complex. It takes no
+    /// memory.
     pub fn of(degrees: Vec<u8>, boundaries: Vec<Chain<P>>) -> Self
         requires { IsComplex P (record { degrees = degrees.items; boundaries = boundaries.items }) }
         ensures degrees { result.degrees ≡ degrees.items }
@@ -121,7 +129,8 @@ impl<const P: u16> Complex<P> {
         field: Field<P>,
         chain: &Chain<P>,
     ) -> Result<Chain<P>, AllocError>
-        ensures { IfOk result (λ b. (g : ℕ) → coefficient b g ≡ boundary self.now.boundaries (coefficient chain.now) g % P) }
+        ensures { IfOk result (λ b. (g : ℕ)
+            → coefficient b g ≡ boundary self.now.boundaries (coefficient chain.now) g % P) }
     {
         let mut products = SmallVec::new(alloc);
         boundary_in(alloc, field, &self.boundaries, chain, &mut products)
@@ -137,7 +146,8 @@ impl<const P: u16> Complex<P> {
     }
 }
 
-// The boundary of a chain. Its products are collected in `products`, whose terms before the call don't count.
+// The boundary of a chain. Its products are collected in `products`, whose terms before the call
+// don't count.
 fn boundary_in<const P: u16>(
     alloc: Global,
     field: Field<P>,
@@ -145,7 +155,8 @@ fn boundary_in<const P: u16>(
     chain: &Chain<P>,
     products: &mut Terms,
 ) -> Result<Chain<P>, AllocError>
-    ensures { IfOk result (λ b. (g : ℕ) → coefficient b g ≡ boundary boundaries.now (coefficient chain.now) g % P) }
+    ensures { IfOk result (λ b. (g : ℕ)
+        → coefficient b g ≡ boundary boundaries.now (coefficient chain.now) g % P) }
 {
     products.clear();
     for index in 0..chain.len() {
@@ -166,7 +177,9 @@ fn push_scaled<const P: u16>(
     products: &mut Terms,
 ) -> Result<(), AllocError>
     requires { scale < P }
-    ensures { OnOk result ((g : ℕ) → Same P (coefficient products.new.items g) (coefficient products.old.items g + scale * coefficient chain.now g)) }
+    ensures { OnOk result ((g : ℕ)
+        → Same P (coefficient products.new.items g)
+        (coefficient products.old.items g + scale * coefficient chain.now g)) }
 {
     for index in 0..chain.len() {
         let (generator, number) = chain.term(index);
@@ -197,7 +210,8 @@ fn first_bad_degree<const P: u16>(degrees: &[u8], boundaries: &[Chain<P>]) -> Op
     requires short { length boundaries.now < 2 ^ 32 }
     ensures some { IfSome result (λ e. IsFirst (IsBadDegree degrees.now boundaries.now) e.0 e.1) }
     ensures none { IfNone result ((h g : ℕ) → ¬ IsBadDegree degrees.now boundaries.now h g) }
-    ensures normal { IfNone result ((h : ℕ) → h < length boundaries.now → IsNormal P (slice_index_or boundaries.now h [])) }
+    ensures normal { IfNone result ((h : ℕ) → h < length boundaries.now
+        → IsNormal P (slice_index_or boundaries.now h [])) }
 {
     for place in 0..boundaries.len() {
         if let Some(at) = misplaced(degrees, place, &boundaries[place]) {
@@ -227,8 +241,10 @@ fn first_not_zero<const P: u16>(
 ) -> Result<Option<(u32, u32, u16)>, AllocError>
     requires { length boundaries.now < 2 ^ 32 }
     ensures some { IfOk result (λ o. IfSome o (λ e. IsFirst (IsNotZero P boundaries.now) e.0 e.1)) }
-    ensures number { IfOk result (λ o. IfSome o (λ e. e.2 ≡ boundary boundaries.now (incidence boundaries.now e.0) e.1 % P)) }
-    ensures none { IfOk result (λ o. IfNone o ((h g : ℕ) → h < length boundaries.now → Same P (boundary boundaries.now (incidence boundaries.now h) g) 0)) }
+    ensures number { IfOk result (λ o. IfSome o
+        (λ e. e.2 ≡ boundary boundaries.now (incidence boundaries.now e.0) e.1 % P)) }
+    ensures none { IfOk result (λ o. IfNone o ((h g : ℕ) → h < length boundaries.now
+        → Same P (boundary boundaries.now (incidence boundaries.now h) g) 0)) }
 {
     let mut products = SmallVec::new(alloc);
     for place in 0..boundaries.len() {

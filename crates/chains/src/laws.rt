@@ -6,7 +6,8 @@ pub fn boundaries_are_operators()
     ensures { BoundariesAreOperators }
 {}
 
-/// Two bases of the homology of one complex in one degree have the same length, which is the dimension.
+/// Two bases of the homology of one complex in one degree have the same length, which is the
+/// dimension.
 pub fn bases_have_one_length()
     ensures any { BasesHaveOneLength }
     ensures numbered { NumberedBasesHaveOneLength }

@@ -1,4 +1,5 @@
-//! Chains and chain complexes over the numbers modulo a prime, and what cycles, null chains and bases of homology are.
+//! Chains and chain complexes over the numbers modulo a prime, and what cycles, null chains and
+//! bases of homology are.
 #![tactic(auto)]
 
 mod chain;

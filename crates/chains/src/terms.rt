@@ -1,4 +1,5 @@
-//! Lists of terms: the merge of two in normal form, and the sum of one in which generators stand in any order.
+//! Lists of terms: the merge of two in normal form, and the sum of one in which generators stand in
+//! any order.
 ghost use Rattle.std.specs.Prelude.{◌≡◌, ℕ, ◌+◌, ◌*◌, ◌%◌, ◌<◌, ◌≤◌, length, OnOk, IfOk};
 ghost use Rattle.std.specs.List.Sorted.{IsNonDecreasingBy};
 ghost use Rattle.chains.specs.Terms.{coefficient, product, IsNormal, push_term};
@@ -32,7 +33,8 @@ pub fn merge<const P: u16>(
     requires left { IsNormal P left.now }
     requires right { IsNormal P right.now }
     ensures normal { IfOk result (λ v. IsNormal P v.items) }
-    ensures sum { IfOk result (λ v. (g : ℕ) → coefficient v.items g ≡ (coefficient left.now g + scale * coefficient right.now g) % P) }
+    ensures sum { IfOk result (λ v. (g : ℕ)
+        → coefficient v.items g ≡ (coefficient left.now g + scale * coefficient right.now g) % P) }
 {
     let mut merged = SmallVec::new(alloc);
     let mut i = 0;
@@ -118,7 +120,8 @@ fn sum_sorted<const P: u16>(
     Ok(sums)
 }
 
-/// The sum of the terms, in which a generator may stand more than once. The terms are left in order.
+/// The sum of the terms, in which a generator may stand more than once. The terms are left in
+/// order.
 pub fn sum_terms<const P: u16>(
     alloc: Global,
     field: Field<P>,
