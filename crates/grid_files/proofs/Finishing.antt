@@ -1,14 +1,16 @@
 -- The end of the reading: what was gathered makes a set.
-use Rattle.std.proofs.Common.{◌≡◌, List, [], ◌∷◌, length, Bool, true, false, ◌||◌, IsTrue, refl, sym, ap, ◌∙◌, arith}
+use Rattle.std.proofs.Common.{◌≡◌, List, [], ◌∷◌, Bool, true, false, ◌||◌, IsTrue, refl, sym, ap, ◌∙◌, arith}
 use Rattle.std.specs.List.{list_all}
 use Rattle.std.specs.List.Sorted.{IsStrictlySortedBy}
 use Rattle.std.specs.Ordering.{is_eq}
+use Rattle.std.proofs.lemmas.Bool.{true≢false}
 use Rattle.elem_cubes.specs.Cells.{Factor}
 use Rattle.elem_cubes.specs.Order.{cell_cmp}
 use Rattle.elem_cubes.specs.OrderLemmas.{cell_cmp_total, tied_cells}
 use Rattle.cube_sets.specs.Sorted.{has}
 use Rattle.cube_sets.specs.Sets.{Members, IsCubeSet, is_member}
 use Rattle.grid_files.specs.SetFile.{no_members}
+use Rattle.grid_files.specs.Kept.{AreMembers}
 use Rattle.grid_files.specs.Readers.{IsGathered}
 use Rattle.grid_files.specs.declared.gathered.Gathered.{Gathered}
 use Rattle.cube_sets.proofs.Sorting.{equal_from, and_true}
@@ -40,12 +42,16 @@ keys_alike g set is =
     let alike : list_all (is_member g.dimension) set.cells ≡ true = ap (λ n. list_all (is_member n) set.cells) is.dimension ∙ is.is_set.alike in
     all_pass (is_member g.dimension) g.cells (λ c k. member_passes (is_member g.dimension) set.cells c alike (sym (is.members c) ∙ k))
 
-none_left : (xs : List (List Factor)) → length xs ≡ 0 → xs ≡ []
-none_left [] e = refl
-none_left (x ∷ xs) e = absurd (omega arith)
+none_left : (xs : List (List Factor)) → ((c : List Factor) → has cell_cmp xs c ≡ false) → xs ≡ []
+none_left [] h = refl
+none_left (x ∷ xs) h = absurd (true≢false (sym (has_itself x xs) ∙ h x))
 
 pub no_keys : (g : Gathered) (set : Members) → IsGathered g set → g.dimension ≡ 0 → g.cells ≡ []
-no_keys g set is e = none_left g.cells (is.count ∙ ap length (is.is_set.unknown (sym is.dimension ∙ e)))
+no_keys g set is e = none_left g.cells (λ c. is.members c ∙ ap (λ l. has cell_cmp l c) (is.is_set.unknown (sym is.dimension ∙ e)))
+
+-- the cells that came are the members of the set
+pub are_its_members : (g : Gathered) (set : Members) → IsGathered g set → AreMembers g.cells set.cells
+are_its_members g set is = record { sorted = is.is_set.sorted; members = is.members }
 
 empty_set : IsCubeSet no_members
 unfolding IsStrictlySortedBy
@@ -55,7 +61,6 @@ pub empty_gathered : (g : Gathered) → g.dimension ≡ 0 → g.cells ≡ [] →
 empty_gathered g e f = record {
   dimension = e;
   members = λ c. ap (λ l. has cell_cmp l c) f;
-  count = ap length f;
   is_set = empty_set;
   few = omega arith;
 }

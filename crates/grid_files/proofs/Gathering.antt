@@ -1,5 +1,5 @@
 -- What one more cube or dimension line makes of the set that is read.
-use Rattle.std.proofs.Common.{◌≡◌, ◌⊎◌, inl, inr, ⊎_elim, ℕ, suc, ◌<◌, ◌≤◌, ℤ, List, [], ◌∷◌, ◌++◌, length, Bool, true, false, ◌||◌, ◌==◌, nat_lt, if◌then◌else◌, None, Some, Result, Ok, Err, refl, sym, ap, ◌∙◌, subst, arith, length-append}
+use Rattle.std.proofs.Common.{◌≡◌, ◌⊎◌, inl, inr, ⊎_elim, ℕ, suc, ◌≤◌, ℤ, List, [], ◌∷◌, ◌++◌, length, Bool, true, false, ◌||◌, ◌==◌, nat_lt, if◌then◌else◌, None, Some, Result, Ok, Err, refl, sym, ap, ◌∙◌, subst, arith, length-append}
 use Rattle.std.specs.Result.{is_err, OnOk}
 use Rattle.std.specs.List.{list_any, list_all}
 use Rattle.std.specs.List.Sorted.{IsStrictlySortedBy}
@@ -23,6 +23,7 @@ use Rattle.grid_files.specs.Openings.{IsClosing}
 use Rattle.grid_files.specs.declared.corner.OpenCorner.{OpenCorner}
 use Rattle.grid_files.specs.declared.opening.Closing.{Closing}
 use Rattle.grid_files.specs.declared.opening.Closing.TheVariants as closings
+use Rattle.grid_files.specs.Kept.{AreMembers}
 use Rattle.grid_files.specs.Readers.{IsGathered}
 use Rattle.grid_files.specs.declared.fault.Kind.{Kind}
 use Rattle.grid_files.specs.declared.fault.TextCause.TheVariants.{TooMany}
@@ -43,7 +44,7 @@ turned Equal = refl
 turned Greater = refl
 
 -- the test of the set of cells is membership by the order
-any_has : (q : List Factor) (keys : List (List Factor)) → list_any (same_cell q) keys ≡ has cell_cmp keys q
+pub any_has : (q : List Factor) (keys : List (List Factor)) → list_any (same_cell q) keys ≡ has cell_cmp keys q
 any_has q [] = refl
 any_has q (x ∷ xs) =
     let e : same_cell q x ≡ is_eq (cell_cmp x q) = cell_cmp_ties q x ∙ ap is_eq (cell_cmp_total.antisymm q x) ∙ turned (cell_cmp x q) in
@@ -59,15 +60,23 @@ or_has : (a h : Bool) → (a ≡ true → h ≡ true) → h ≡ (a || h)
 or_has true h f = f refl
 or_has false h f = refl
 
+-- the cells after one more has been told apart
+abbrev pub with_key : List Factor → List (List Factor) → List (List Factor)
+with_key q keys = if list_any (same_cell q) keys then keys else keys ++ q ∷ []
+
+joined_by : (q : List Factor) (keys : List (List Factor)) (there : Bool) (c : List Factor) → list_any (same_cell q) keys ≡ there
+    → has cell_cmp (if there then keys else keys ++ q ∷ []) c ≡ (is_eq (cell_cmp q c) || has cell_cmp keys c)
+joined_by q keys true c e =
+    or_has (is_eq (cell_cmp q c)) (has cell_cmp keys c) (λ t. sym (has_alike cell_cmp cell_cmp_total q c keys (equal_from cell_cmp cell_cmp_total (cell_cmp q c) t)) ∙ sym (any_has q keys) ∙ e)
+joined_by q keys false c e = list_any-append (λ x. is_eq (cell_cmp x c)) keys (q ∷ []) ∙ or_comm (has cell_cmp keys c) (is_eq (cell_cmp q c))
+
+pub joined : (q : List Factor) (keys : List (List Factor)) (c : List Factor) → has cell_cmp (with_key q keys) c ≡ (is_eq (cell_cmp q c) || has cell_cmp keys c)
+joined q keys c = joined_by q keys (list_any (same_cell q) keys) c refl
+
 pub joined_members : (q : List Factor) (keys cells : List (List Factor)) (there : Bool) (c : List Factor) → list_any (same_cell q) keys ≡ there
     → ((c : List Factor) → has cell_cmp keys c ≡ has cell_cmp cells c)
     → has cell_cmp (if there then keys else keys ++ q ∷ []) c ≡ has cell_cmp (inserted cell_cmp q cells) c
-joined_members q keys cells true c e h =
-    or_has (is_eq (cell_cmp q c)) (has cell_cmp keys c) (λ t. sym (has_alike cell_cmp cell_cmp_total q c keys (equal_from cell_cmp cell_cmp_total (cell_cmp q c) t)) ∙ sym (any_has q keys) ∙ e)
-    ∙ ap (λ b. is_eq (cell_cmp q c) || b) (h c) ∙ sym (has-inserted cell_cmp cell_cmp_total q cells c)
-joined_members q keys cells false c e h =
-    list_any-append (λ x. is_eq (cell_cmp x c)) keys (q ∷ []) ∙ or_comm (has cell_cmp keys c) (is_eq (cell_cmp q c))
-    ∙ ap (λ b. is_eq (cell_cmp q c) || b) (h c) ∙ sym (has-inserted cell_cmp cell_cmp_total q cells c)
+joined_members q keys cells there c e h = joined_by q keys there c e ∙ ap (λ b. is_eq (cell_cmp q c) || b) (h c) ∙ sym (has-inserted cell_cmp cell_cmp_total q cells c)
 
 pub length_there : (q : List Factor) (cells : List (List Factor)) → IsStrictlySortedBy cell_cmp cells → has cell_cmp cells q ≡ true → length (inserted cell_cmp q cells) ≡ length cells
 unfolding IsStrictlySortedBy
@@ -99,10 +108,6 @@ joined_count q keys cells false e h n s =
     let new = length_new q cells (sym (h q) ∙ sym (any_has q keys) ∙ e) in
     omega (arith, length-append keys (q ∷ []))
 
--- the cells after one more has joined
-abbrev pub with_key : List Factor → List (List Factor) → List (List Factor)
-with_key q keys = if list_any (same_cell q) keys then keys else keys ++ q ∷ []
-
 agreeing : (a b : ℕ) → (a ≡ 0) ⊎ (a ≡ b) → dimensions_agree a b ≡ true
 agreeing a b h = grind (arith, nat_tests)
 
@@ -121,30 +126,38 @@ joined_set set q is h some few agree n = record {
   few = omega arith;
 }
 
+-- the cells that have come are those of the set with one more
+pub more_members : (set : Members) (q : List Factor) (old new : List (List Factor)) → IsCubeSet set → ((c : List Factor) → has cell_cmp old c ≡ has cell_cmp set.cells c)
+    → ((c : List Factor) → has cell_cmp new c ≡ (is_eq (cell_cmp q c) || has cell_cmp old c)) → AreMembers new (inserted cell_cmp q set.cells)
+more_members set q old new is h j = record {
+  sorted = sorted-inserted cell_cmp cell_cmp_total q set.cells is.sorted;
+  members = λ c. j c ∙ ap (λ b. is_eq (cell_cmp q c) || b) (h c) ∙ sym (has-inserted cell_cmp cell_cmp_total q set.cells c);
+}
+
 pub cell_joins : (kind : Kind) (set : Members) (old new : Gathered) (q : List Factor) → IsGathered old set → list_all is_file_factor q ≡ true → 1 ≤ length q → length q ≤ MAX_EMBEDDING
-    → (old.dimension ≡ 0) ⊎ (old.dimension ≡ length q) → is_wanted kind q ≡ true → new.cells ≡ with_key q old.cells → new.dimension ≡ length q → length new.cells ≤ CUBES
+    → (old.dimension ≡ 0) ⊎ (old.dimension ≡ length q) → is_wanted kind q ≡ true → ((c : List Factor) → has cell_cmp new.cells c ≡ (is_eq (cell_cmp q c) || has cell_cmp old.cells c))
+    → new.dimension ≡ length q → ((cells : List (List Factor)) → AreMembers new.cells cells → false ≡ nat_lt CUBES (length cells))
     → (cell_cause kind set q ≡ None) × IsGathered new (with_cell set (Some q))
-cell_joins kind set old new q g h some few agree wanted cells dimension n =
+cell_joins kind set old new q g h some few agree wanted more dimension within =
     let a : (set.dimension ≡ 0) ⊎ (set.dimension ≡ length q) = ⊎_elim (λ e. inl (sym g.dimension ∙ e)) (λ e. inr (sym g.dimension ∙ e)) agree in
-    let m : length new.cells ≡ length (inserted cell_cmp q set.cells) = ap length cells ∙ joined_count q old.cells set.cells (list_any (same_cell q) old.cells) refl g.members g.count g.is_set.sorted in
-    let fewer : length (inserted cell_cmp q set.cells) ≤ CUBES = omega arith in
-    let test : nat_lt CUBES (length (inserted cell_cmp q set.cells)) ≡ false = grind (arith, nat_tests) in (
+    let all = more_members set q old.cells new.cells g.is_set g.members more in
+    let test : nat_lt CUBES (length (inserted cell_cmp q set.cells)) ≡ false = sym (within _ all) in
+    let fewer : length (inserted cell_cmp q set.cells) ≤ CUBES = grind (arith, nat_tests) in (
       rw (agreeing set.dimension (length q) a, wanted, test) refl,
       record {
         dimension = dimension;
-        members = λ c. ap (λ l. has cell_cmp l c) cells ∙ joined_members q old.cells set.cells (list_any (same_cell q) old.cells) c refl g.members;
-        count = m;
+        members = all.members;
         is_set = joined_set set q g.is_set h some few a fewer;
         few = fewer;
       },
     )
 
-pub cell_too_many : (kind : Kind) (set : Members) (old : Gathered) (q : List Factor) (cells : List (List Factor)) → IsGathered old set
-    → (old.dimension ≡ 0) ⊎ (old.dimension ≡ length q) → is_wanted kind q ≡ true → cells ≡ with_key q old.cells → CUBES < length cells → cell_cause kind set q ≡ Some TooMany
-cell_too_many kind set old q cells g agree wanted is n =
+pub cell_too_many : (kind : Kind) (set : Members) (old : Gathered) (q : List Factor) (new : List (List Factor)) → IsGathered old set
+    → (old.dimension ≡ 0) ⊎ (old.dimension ≡ length q) → is_wanted kind q ≡ true → ((c : List Factor) → has cell_cmp new c ≡ (is_eq (cell_cmp q c) || has cell_cmp old.cells c))
+    → ((cells : List (List Factor)) → AreMembers new cells → true ≡ nat_lt CUBES (length cells)) → cell_cause kind set q ≡ Some TooMany
+cell_too_many kind set old q new g agree wanted more beyond =
     let a : (set.dimension ≡ 0) ⊎ (set.dimension ≡ length q) = ⊎_elim (λ e. inl (sym g.dimension ∙ e)) (λ e. inr (sym g.dimension ∙ e)) agree in
-    let m : length cells ≡ length (inserted cell_cmp q set.cells) = ap length is ∙ joined_count q old.cells set.cells (list_any (same_cell q) old.cells) refl g.members g.count g.is_set.sorted in
-    let test : nat_lt CUBES (length (inserted cell_cmp q set.cells)) ≡ true = grind (arith, nat_tests) in
+    let test : nat_lt CUBES (length (inserted cell_cmp q set.cells)) ≡ true = sym (beyond _ (more_members set q old.cells new g.is_set g.members more)) in
     rw (agreeing set.dimension (length q) a, wanted, test) refl
 
 -- what is known of a closing is known of its item

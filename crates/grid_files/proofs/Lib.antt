@@ -7,6 +7,7 @@ pub mod Corners
 pub mod Openings
 pub mod WholeCubes
 pub mod Gathering
+pub mod Keeping
 pub mod Readings
 pub mod Finishing
 pub mod SetFiles

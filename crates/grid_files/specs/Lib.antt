@@ -12,6 +12,7 @@ pub mod Scanning
 pub mod Reading
 pub mod Corners
 pub mod Openings
+pub mod Kept
 pub mod Readers
 pub mod Readings
 pub mod Faults

@@ -10,11 +10,10 @@ use Rattle.grid_files.specs.declared.gathered.Gathered.{Gathered}
 use Rattle.grid_files.specs.declared.gathered.Refusal.{Refusal}
 use Rattle.grid_files.specs.declared.gathered.Refusal.TheVariants as refusals
 
--- these are the dimension and the members of the set, in some order
+-- these are the dimension and the members of the set, in some order, and maybe more than once
 pub record IsGathered (gathered : Gathered) (set : Members) : Type 0 where
   pub dimension : gathered.dimension ≡ set.dimension
   pub members : (c : List Factor) → has cell_cmp gathered.cells c ≡ has cell_cmp set.cells c
-  pub count : length gathered.cells ≡ length set.cells
   pub is_set : IsCubeSet set
   pub few : length set.cells ≤ CUBES
 

@@ -12,7 +12,6 @@ use crate::cells::Cells;
 use crate::fault::{Kind, TextCause};
 use crate::opening::Closing;
 use crate::whole_cube::{cube_between, full_cube};
-use cube_sets::CUBES;
 use elem_cubes::{Cell, MAX_EMBEDDING};
 
 /// A cause that has no place yet, or no memory was left.
@@ -48,7 +47,7 @@ impl Gathered {
         if self.cells.insert(cell).is_err() {
             return Err(Refusal::NoMemory);
         }
-        if self.cells.len() > CUBES as usize {
+        if self.cells.are_too_many() {
             return Err(Refusal::Cause(TextCause::TooMany));
         }
         self.dimension = dimension;

@@ -130,10 +130,9 @@ impl Reader {
     }
 
     /// The text is at its end.
-    pub(crate) fn finish(&self, alloc: Global) -> Result<CubeSet, TextFault>
-        requires { (set : Members) × (o : Open) × Reads self.now set o }
-        ensures { (set : Members) (o : Open)
-            → Reads self.now set o → Ends o self.now.start set result }
+    pub(crate) fn finish(self) -> Result<CubeSet, TextFault>
+        requires { (set : Members) × (o : Open) × Reads self set o }
+        ensures { (set : Members) (o : Open) → Reads self set o → Ends o self.start set result }
     {
         if self.opening.is_open() {
             return Err(TextFault::At {
@@ -141,8 +140,9 @@ impl Reader {
                 cause: TextCause::Unclosed,
             });
         }
-        let cells = self.gathered.cells.to_vec(alloc)?;
-        let set = CubeSet::of_cells(self.gathered.dimension, cells)?;
+        let dimension = self.gathered.dimension;
+        let cells = self.gathered.cells.into_vec()?;
+        let set = CubeSet::of_cells(dimension, cells)?;
         let _len = set.len();
         Ok(set)
     }

@@ -29,7 +29,7 @@ pub fn read_set(alloc: Global, bytes: &[u8], kind: Kind) -> Result<CubeSet, Text
         }
     }
     match reader.feed(carry, bytes.len() as u64, b'\n') {
-        Ok(_) => reader.finish(alloc),
+        Ok(_) => reader.finish(),
         Err(fault) => Err(fault),
     }
 }

@@ -43,8 +43,8 @@ returns-in-Ok-feed-clause-refusal c =
     let le : length c.args.bytes.now ≤ length c.args.bytes.now = omega arith in
     finished_fault c.args.kind c.args.bytes.now f.o' _ f.set' _ (ended c.args.kind c.args.bytes.now c.loop-place.reader c.feed-2.new.self c.loop-place.carry c.in-Ok-feed.field-0 (length c.args.bytes.now) r le f (c.in-Ok-feed.ensures.line refl)) (c.finish.ensures f.set' f.o' f.reads)
 
-pub returns-clause-refusal : goal.returns-clause-refusal
-returns-clause-refusal c =
+pub returns-in-Err-feed-clause-refusal : goal.returns-in-Err-feed-clause-refusal
+returns-in-Err-feed-clause-refusal c =
     let at : c.loop-place.place ≡ length c.args.bytes.now = omega arith in
     let r : IsReading c.args.kind c.args.bytes.now c.loop-place.reader c.loop-place.carry (length c.args.bytes.now) =
     subst (λ (n : ℕ). IsReading c.args.kind c.args.bytes.now c.loop-place.reader c.loop-place.carry n) at c.loop-place.invariant in
