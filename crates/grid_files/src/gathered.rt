@@ -34,7 +34,8 @@ impl Gathered {
     fn join_cell(&mut self, cell: Cell) -> Result<(), Refusal>
         requires { IsTrue (list_all is_file_factor cell) }
         ensures joins { (set : Members) → IsGathered self.old set
-            → Joins (cell_cause self.old.kind set cell) (with_cell set (Some cell)) self.new result }
+            → Joins (cell_cause self.old.kind set cell) (with_cell set (Some cell)) self.new
+            result }
         ensures kept { self.new.kind ≡ self.old.kind }
     {
         let dimension = cell.embedding() as u8;

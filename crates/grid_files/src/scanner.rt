@@ -268,7 +268,8 @@ fn going_on(carry: Carry) -> Scanned
 // One more byte in a number.
 fn in_digits(at: u64, negative: bool, value: u64, place: u64, b: u8) -> Scanned
     requires { value ≤ CAP }
-    ensures pieces { Scans (Digits at negative value) place b result.carry result.first result.second }
+    ensures pieces { Scans (Digits at negative value) place b result.carry result.first
+        result.second }
     ensures carry { IsCarry result.carry }
     ensures line { b ≡ 10 → result.carry ≡ Between }
 {
@@ -324,7 +325,8 @@ fn after_number_dash(at: u64, place: u64, b: u8) -> Scanned
 // One more byte in the number of a dimension line.
 fn in_number(at: u64, negative: bool, value: u64, place: u64, b: u8) -> Scanned
     requires { value ≤ CAP }
-    ensures pieces { Scans (BehindDigits at negative value) place b result.carry result.first result.second }
+    ensures pieces { Scans (BehindDigits at negative value) place b result.carry result.first
+        result.second }
     ensures carry { IsCarry result.carry }
     ensures line { b ≡ 10 → result.carry ≡ Between }
 {

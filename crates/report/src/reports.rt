@@ -15,8 +15,8 @@ pub enum Report {
     /// On a map between two pairs.
     Map(MapReport),
     /// On a chain complex: the dimensions of its groups by degree from 0, and the cycles of a basis
-    /// in each degree, their terms by ascending generator. The cycles may be left out where they are
-    /// not printed.
+    /// in each degree, their terms by ascending generator. The cycles may be left out where they
+    /// are not printed.
     Chain {
         dimensions: Dimensions,
         cycles: Cycles<u32>,
