@@ -97,7 +97,7 @@ pub record IsNarrowed (map : Mapping) (domain all left : List (List Factor)) (mo
   pub dimension : IfSome set (λ s. s.dimension ≡ map.dimension)
   pub few : IfSome set (λ s. length s.cells ≤ most)
 
-cells_have : (x : List (List Factor)) (g : List Factor) → Contains (cells_of x) g ↔ (is_cell_of x g ≡ true)
+pub cells_have : (x : List (List Factor)) (g : List Factor) → Contains (cells_of x) g ↔ (is_cell_of x g ≡ true)
 cells_have x g = (
   λ w. sym (cells_are_faces.faces x g) ∙ has_is (cells_of x) g ∙ has_from (cells_of x) g w,
   λ e. from_has (cells_of x) g (sym (has_is (cells_of x) g) ∙ cells_are_faces.faces x g ∙ e),
@@ -185,7 +185,7 @@ module _ (map : Mapping) (domain all : List (List Factor)) (most : ℕ) where
 -- ---- at the end
 
 module _ (map : Mapping) (is : IsCubeMap map) (domain : List (List Factor)) (named : AreNamed map.named domain) (s : List Factor) where
-  in_value : (g : List Factor) → InAll map.named domain (covers_of s) g ↔ InValue map.named domain s g
+  pub in_value : (g : List Factor) → InAll map.named domain (covers_of s) g ↔ InValue map.named domain s g
   in_value g = (
     λ h q w f. h q (to_cover s q (named_is_wide map is q (named q w)) f) w,
     λ h q w d. h q d (covers.cover_to s q w).1,

@@ -1,4 +1,5 @@
 pub mod Firsts
 pub mod Narrowed
+pub mod Shapes
 pub mod Faults
 pub mod Carriers

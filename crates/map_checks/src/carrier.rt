@@ -18,8 +18,8 @@ use field_mod::Field;
 use std::alloc::{AllocError as NoMemory, Global};
 use std::marker::Model;
 
-/// A map with its domain and its range, whose values on the domain are in the range and acyclic at all cells modulo `P`. It keeps
-/// them as they were, and the cells of the domain and of the range.
+/// A map with its domain and its range, whose values on the domain are in the range and acyclic at
+/// all cells modulo `P`. It keeps them as they were, and the cells of the domain and of the range.
 #[derive(Drop)]
 pub struct Carrier<const P: u16> {
     map: CubeMap,
@@ -37,10 +37,19 @@ impl<const P: u16> Model for Carrier<P> {
 
     ghost Value = { Carrying };
 
-    ghost view = { λ c. record { dimension = c.dimension; map = c.map.named; domain = c.domain.cells; range = c.range.cells } };
+    ghost view = { λ c. record {
+      dimension = c.dimension;
+      map = c.map.named;
+      domain = c.domain.cells;
+      range = c.range.cells;
+    } };
 
-    ghost invariant = { λ c. IsCarrier P (record { dimension = c.dimension; map = c.map.named; domain = c.domain.cells; range = c.range.cells })
-        × (c.domain_cells ≡ cells_of c.domain.cells) × (c.range_cells ≡ cells_of c.range.cells) };
+    ghost invariant = { λ c. IsCarrier P (record {
+      dimension = c.dimension;
+      map = c.map.named;
+      domain = c.domain.cells;
+      range = c.range.cells;
+    }) × (c.domain_cells ≡ cells_of c.domain.cells) × (c.range_cells ≡ cells_of c.range.cells) };
 }
 
 impl<const P: u16> Carrier<P> {
@@ -58,8 +67,8 @@ impl<const P: u16> Carrier<P> {
         &self.range_cells
     }
 
-    /// The known dimension of the map, of its domain and of its range, or 0 where none is known. Its clauses hand out what a
-    /// carrier is.
+    /// The known dimension of the map, of its domain and of its range, or 0 where none is known.
+    /// Its clauses hand out what a carrier is.
     pub fn dimension(&self) -> u8
         ensures dimension { result ≡ self.now.dimension }
         ensures carrier { IsCarrier P self.now }
@@ -70,7 +79,8 @@ impl<const P: u16> Carrier<P> {
     /// The value of the map at a cell of the domain, in order.
     pub fn value(&self, alloc: Global, cell: &Cell) -> Result<Vec<Cell>, NoMemory>
         requires { IsTrue (is_cell_of self.now.domain cell.now) }
-        ensures { IfOk result (λ value. IsValueAt self.now.map self.now.domain cell.now value.items) }
+        ensures { IfOk result
+            (λ value. IsValueAt self.now.map self.now.domain cell.now value.items) }
     {
         value_at(alloc, &self.map, &self.domain, cell)
     }
@@ -89,8 +99,8 @@ fn all_cells(alloc: Global, set: &CubeSet) -> Result<Numbered, NoMemory>
     }
 }
 
-/// The carrier of a map from the pair of x and a to that of y and b, whose values at all cells of the domain are acyclic; else the
-/// first reason why it has none.
+/// The carrier of a map from the pair of x and a to that of y and b, whose values at all cells of
+/// the domain are acyclic; else the first reason why it has none.
 pub fn check_values<const P: u16>(
     alloc: Global,
     field: Field<P>,
@@ -106,10 +116,13 @@ pub fn check_values<const P: u16>(
     ensures map { IfOk result (λ c. c.map ≡ map.now.named) }
     ensures domain { IfOk result (λ c. c.domain ≡ together x.now.cells a.now.cells) }
     ensures range { IfOk result (λ c. c.range ≡ together y.now.cells b.now.cells) }
-    ensures dimension { IfOk result (λ c. c.dimension ≡ max map.now.dimension (max (max x.now.dimension a.now.dimension) (max y.now.dimension b.now.dimension))) }
+    ensures dimension { IfOk result (λ c. c.dimension ≡ max map.now.dimension
+        (max (max x.now.dimension a.now.dimension) (max y.now.dimension b.now.dimension))) }
     ensures carrier { IfOk result (IsCarrier P) }
-    ensures sets { OnOk result (HasNoSetFault map.now.named x.now.cells a.now.cells y.now.cells b.now.cells) }
-    ensures err { IfErr result (IsMapFault P map.now.named x.now.cells a.now.cells y.now.cells b.now.cells) }
+    ensures sets { OnOk result
+        (HasNoSetFault map.now.named x.now.cells a.now.cells y.now.cells b.now.cells) }
+    ensures err { IfErr result
+        (IsMapFault P map.now.named x.now.cells a.now.cells y.now.cells b.now.cells) }
 {
     // Their clauses say what sets are.
     let _x_members = x.len();

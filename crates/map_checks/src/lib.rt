@@ -1,9 +1,14 @@
-//! Maps of full cubes from one pair of sets to another: their values at cells, and the test of them.
+//! Maps of full cubes from one pair of sets to another: their values at cells, and the test of
+//! them.
 #![tactic(auto)]
 
+mod acyclic_shapes;
 mod carrier;
 mod map_fault;
+mod moves;
 mod sets;
+mod shape;
+mod slots;
 mod value;
 mod values;
 

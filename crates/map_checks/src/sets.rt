@@ -53,7 +53,8 @@ fn is_in_either(cube: &Cell, y: &CubeSet, b: &CubeSet) -> bool
 
 // The first value of a cube that is in neither set.
 fn value_outside(map: &CubeMap, cube: &Cell, y: &CubeSet, b: &CubeSet) -> Option<Cell>
-    ensures { IsFirst (value_of map.now.named cube.now) (λ v. Contains (together y.now.cells b.now.cells) v → ⊥) result }
+    ensures { IsFirst (value_of map.now.named cube.now)
+        (λ v. Contains (together y.now.cells b.now.cells) v → ⊥) result }
 {
     // Its clauses say that values stand in order.
     let _count = map.len();
@@ -89,8 +90,10 @@ fn first_outside(
     y: &CubeSet,
     b: &CubeSet,
 ) -> Option<(Cell, Cell)>
-    ensures some { IfSome result (λ r. IsFirstOutside map.now.named (together x.now.cells a.now.cells) (together y.now.cells b.now.cells) r.0 r.1) }
-    ensures none { IfNone result (GoesInto map.now.named (together x.now.cells a.now.cells) (together y.now.cells b.now.cells)) }
+    ensures some { IfSome result (λ r. IsFirstOutside map.now.named
+        (together x.now.cells a.now.cells) (together y.now.cells b.now.cells) r.0 r.1) }
+    ensures none { IfNone result (GoesInto map.now.named
+        (together x.now.cells a.now.cells) (together y.now.cells b.now.cells)) }
 {
     let left = first_leaving(map, x.cells(), y, b);
     let right = first_leaving(map, a.cells(), y, b);
@@ -103,8 +106,8 @@ fn first_outside(
     }
 }
 
-/// Whether the map names all cubes of the domain, which is x with a, goes into the range, which is y with b, and sends the cubes
-/// of a into b; else the first reason why not. It takes no memory.
+/// Whether the map names all cubes of the domain, which is x with a, goes into the range, which is
+/// y with b, and sends the cubes of a into b; else the first reason why not. It takes no memory.
 pub fn check_sets<const P: u16>(
     map: &CubeMap,
     x: &CubeSet,
@@ -112,8 +115,10 @@ pub fn check_sets<const P: u16>(
     y: &CubeSet,
     b: &CubeSet,
 ) -> Result<(), MapFault<P>>
-    ensures ok { OnOk result (HasNoSetFault map.now.named x.now.cells a.now.cells y.now.cells b.now.cells) }
-    ensures err { IfErr result (IsMapFault P map.now.named x.now.cells a.now.cells y.now.cells b.now.cells) }
+    ensures ok { OnOk result
+        (HasNoSetFault map.now.named x.now.cells a.now.cells y.now.cells b.now.cells) }
+    ensures err { IfErr result
+        (IsMapFault P map.now.named x.now.cells a.now.cells y.now.cells b.now.cells) }
     ensures sets { IfErr result (IsOfSets P) }
 {
     let left = first_unnamed(map, x.cells());

@@ -59,7 +59,8 @@ pub(crate) fn value_set(
 ) -> Result<CubeSet, NoMemory>
     requires cell { IsTrue (is_cell_of domain.now.cells cell.now) }
     requires named { AreNamed map.now.named domain.now.cells }
-    ensures { IfOk result (λ value. IsValueAt map.now.named domain.now.cells cell.now value.cells) }
+    ensures { IfOk result
+        (λ value. IsValueAt map.now.named domain.now.cells cell.now value.cells) }
 {
     // Their clauses say what a map and a set are.
     let _cubes = map.len();
@@ -79,8 +80,8 @@ pub(crate) fn value_set(
     Ok(value)
 }
 
-/// The value of the map at a cell of the domain, in order: the cells of the values of all cubes of the domain that have it as a
-/// face. The map names each cube of the domain.
+/// The value of the map at a cell of the domain, in order: the cells of the values of all cubes of
+/// the domain that have it as a face. The map names each cube of the domain.
 pub fn value_at(
     alloc: Global,
     map: &CubeMap,
@@ -89,7 +90,8 @@ pub fn value_at(
 ) -> Result<Vec<Cell>, NoMemory>
     requires cell { IsTrue (is_cell_of domain.now.cells cell.now) }
     requires named { AreNamed map.now.named domain.now.cells }
-    ensures { IfOk result (λ value. IsValueAt map.now.named domain.now.cells cell.now value.items) }
+    ensures { IfOk result
+        (λ value. IsValueAt map.now.named domain.now.cells cell.now value.items) }
 {
     let set = value_set(alloc, map, domain, cell)?;
     let value = Vec::from_slice(alloc, set.cells())?;

@@ -1,25 +1,13 @@
-use Rattle.std.proofs.Common.{sym, subst, arith}
-use Rattle.cell_complex.specs.Acyclic.{IsAcyclic}
-use Rattle.cell_complex.specs.Sorted.{IsSortedCells}
-use Rattle.cell_complex.specs.RelativeComplex.{IsClosedList}
-use Rattle.map_checks.proofs.Hollow.{sorted_cells, value_closed, acyclic_at}
+use Rattle.std.proofs.Common.{arith}
+use Rattle.map_checks.proofs.Shaping.{acyclic_shape, acyclic_by_shape}
 use Rattle.map_checks.proofs.values.check_value.Goals as goal
 
-pub contract_value-requires : goal.contract_value-requires
-contract_value-requires g c = (
-  (omega arith),
-  (
-    (omega arith),
-    (
-      (omega arith),
-      (
-        subst IsSortedCells (sym c.cells.ensures.cells) (sorted_cells c.in_ok-set.set c.cells.ensures.set),
-        subst IsClosedList (sym c.cells.ensures.cells) (value_closed c.args.map.now.named c.args.domain.now.cells c.args.cell.now c.in_ok-set.set.cells c.in_ok-set.ensures),
-      ),
-    ),
-  ),
-)
+pub returns-then-has-clause-ok : goal.returns-then-has-clause-ok
+returns-then-has-clause-ok g c =
+    acyclic_by_shape g.row.P c.args.map.now.named c.args.domain.now.cells c.args.cell.now c.in_ok-shape.shape c.in_ok-shape.ensures (c.has.ensures c.if-has.true)
 
-pub returns-in-Ok-clause-ok : goal.returns-in-Ok-clause-ok
-returns-in-Ok-clause-ok g c =
-    acyclic_at g.row.P c.args.map.now.named c.args.domain.now.cells c.args.cell.now c.in_ok-set.set.cells c.in_ok-set.ensures (subst (IsAcyclic g.row.P) c.cells.ensures.cells c.in-Ok.ensures.ok.acyclic)
+pub keep-requires : goal.keep-requires
+keep-requires g c = (
+  (omega arith),
+  acyclic_shape g.row.P c.args.map.now.named c.args.domain.now.cells c.args.cell.now c.in_ok-shape.shape c.in_ok-shape.ensures c.in_ok-contract_at.ensures.ok,
+)
