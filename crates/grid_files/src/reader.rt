@@ -91,7 +91,8 @@ impl Reader {
         }
     }
 
-    // A piece, if there is one.
+    // A piece, if there is one. Most bytes end none, so that is seen without a call.
+    #[inline(always)]
     fn take_any(&mut self, placed: Option<Placed>) -> Result<(), TextFault>
         ensures { (set : Members) (o : Open) → Reads self.old set o
             → Leads self.old.gathered.kind set o self.old.start (listed placed) self.new result }
@@ -103,6 +104,7 @@ impl Reader {
     }
 
     // At most two pieces.
+    #[inline(always)]
     fn take_both(&mut self, first: Option<Placed>, second: Option<Placed>) -> Result<(), TextFault>
         ensures { (set : Members) (o : Open) → Reads self.old set o
             → Leads self.old.gathered.kind set o self.old.start
@@ -115,6 +117,7 @@ impl Reader {
     }
 
     /// One more byte, which stands at this place.
+    #[inline(always)]
     pub(crate) fn feed(&mut self, carry: Carry, place: u64, b: u8) -> Result<Carry, TextFault>
         requires { IsCarry carry }
         ensures feeds { (set : Members) (o : Open) → Reads self.old set o

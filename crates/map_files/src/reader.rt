@@ -108,7 +108,8 @@ impl Reader {
         }
     }
 
-    // A piece, if there is one.
+    // A piece, if there is one. Most bytes end none, so that is seen without a call.
+    #[inline(always)]
     fn take_any(&mut self, placed: Option<Placed>) -> Result<(), TextFault>
         ensures { (m : Mapping) (o : Open) → Reads self.old m o
             → Leads m o self.old.start (listed placed) self.new result }
@@ -120,6 +121,7 @@ impl Reader {
     }
 
     // At most two pieces.
+    #[inline(always)]
     fn take_both(&mut self, first: Option<Placed>, second: Option<Placed>) -> Result<(), TextFault>
         ensures { (m : Mapping) (o : Open) → Reads self.old m o
             → Leads m o self.old.start (λ rest. listed first (listed second rest)) self.new result }
@@ -131,6 +133,7 @@ impl Reader {
     }
 
     /// One more byte, which stands at this place.
+    #[inline(always)]
     pub(crate) fn feed(&mut self, carry: Carry, place: u64, b: u8) -> Result<Carry, TextFault>
         requires { IsCarry carry }
         ensures feeds { (m : Mapping) (o : Open) → Reads self.old m o
