@@ -6,17 +6,19 @@ use Rattle.field_mod.specs.Modular.{Same, NonZero, minus}
 use Rattle.field_mod.proofs.Modular.{same_by, same_refl, same_sym, same_trans, same-add, same-scale, same-mul}
 use Rattle.chains.specs.Terms.{coefficient}
 use Rattle.chains.specs.ChainComplex.{ChainComplex, incidence}
-use Rattle.algebraic_reduction.specs.Reduction.{Step, IsUnpaired, left, left_all}
+use Rattle.algebraic_reduction.specs.Reduction.{Step, IsUnpaired, IsOnLeft, left, left_all}
 use Rattle.algebraic_reduction.specs.Laws.{left_of, NothingLeft}
 use Rattle.algebraic_reduction.specs.LogWords.{IsOneMore}
 use Rattle.algebraic_reduction.specs.Kept.{KeptStep, steps_of}
-use Rattle.algebraic_reduction.specs.State.{IsState, GoesOn}
+use Rattle.algebraic_reduction.specs.State.{IsState, GoesOn, place_at}
 use Rattle.algebraic_reduction.proofs.Bridge.{grade, grade_in, grade_past, is_boundary}
 use Rattle.algebraic_reduction.proofs.Linear.{paired_dead, left_all_is_boundary}
 use Rattle.algebraic_reduction.proofs.LeftBasis.{decide_unpaired}
 use Rattle.algebraic_reduction.proofs.KeptSteps.{left_all-append}
 use Rattle.algebraic_reduction.proofs.Residues.{same_zero}
 use Rattle.algebraic_reduction.proofs.Restrictions.{left_all-parts}
+use Rattle.algebraic_reduction.proofs.LinearMaps.{exact}
+use Rattle.algebraic_reduction.proofs.Singles.{on_left_by}
 
 append_none : {A : Type 0} (xs : List A) → xs ≡ xs ++ []
 append_none [] = refl
@@ -121,3 +123,11 @@ empty_all p n K places ks two s e inv h g = ⊎_elim
 pub empty_row : (p : ℕ) (row : List (ℕ × ℕ)) (g x : ℕ) → length row ≡ 0 → Same p (coefficient row g) x → Same p x 0
 empty_row p [] g x e s = same_sym s
 empty_row p (t ∷ ts) g x e s = absurd (omega arith)
+
+-- a chain that has nothing where a step is told is one on what is left
+pub off_steps : (p : ℕ) (K : ChainComplex) (places : List (Option ℕ)) (ks : List KeptStep) → IsState p K places ks → (x : ℕ → ℕ) → ((g i : ℕ) → place_at places g ≡ Some i → x g ≡ 0) → IsOnLeft p (steps_of ks) x
+off_steps p K places ks s x off = on_left_by p (steps_of ks) x (λ g f. by_place g f (place_at places g) refl)
+  where
+    by_place : (g : ℕ) → (IsUnpaired (steps_of ks) g → ⊥) → (o : Option ℕ) → place_at places g ≡ o → Same p (x g) 0
+    by_place g f None e = absurd (f (s.in_none g e))
+    by_place g f (Some i) e = exact p _ 0 (off g i e)

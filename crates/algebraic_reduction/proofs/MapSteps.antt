@@ -27,3 +27,10 @@ left_skipped places ts out k i l inv s g n = inv g n ∙ sym (coefficient_other 
   where
     clash : None ≡ Some i → ⊥
     clash q = cc
+
+-- one more term of a chain, at a generator in no step
+pub off_more : (places : List (Option ℕ)) (ts : List (ℕ × ℕ)) (k : ℕ) → k < length ts → ((g i : ℕ) → place_at places g ≡ Some i → coefficient (take k ts) g ≡ 0) → place_at places (get_or ts k (0, 0)).0 ≡ None → (g i : ℕ) → place_at places g ≡ Some i → coefficient (take (k + 1) ts) g ≡ 0
+off_more places ts k l inv n g i s = coefficient_other ts k g l (λ q. clash (sym n ∙ ap (λ (x : ℕ). place_at places x) q ∙ s)) ∙ inv g i s
+  where
+    clash : None ≡ Some i → ⊥
+    clash q = cc

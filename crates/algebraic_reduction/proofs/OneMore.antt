@@ -171,6 +171,19 @@ state_after p a b m inverse two K row places ks ks' k s ia ib ek er nz inverts e
     (state_more p two K places (set (set places a (Some m)) b (Some m)) ks (record { step = record { a = a; b = b; inverse = inverse }; row = row }) s ia.0 ib.0 (state_apart p a b K places ks two s nz) ia.1 ib.1 inverts (record { row = er })
     (ap (λ (i : ℕ). set (set places a (Some i)) b (Some i)) em))
 
+-- there is room for the number of the step and 1 more
+pub state_room : (p a b m inverse : ℕ) (two : 2 ≤ p) (K : ChainComplex) (row : List (ℕ × ℕ)) (places : List (Option ℕ)) (ks : List KeptStep)
+    → IsState p K places ks
+    → (a < length K.boundaries) × IsUnpaired (steps_of ks) a → (b < length K.boundaries) × IsUnpaired (steps_of ks) b
+    → ((g : ℕ) → Same p (coefficient row g) (left_of p K (steps_of ks) b g))
+    → NonZero p (left_of p K (steps_of ks) b a)
+    → Same p (inverse * left_of p K (steps_of ks) b a) 1
+    → m ≡ length ks → m + 1 < 2 ^ 32
+state_room p a b m inverse two K row places ks s ia ib er nz inverts em =
+    let k : KeptStep = record { step = record { a = a; b = b; inverse = inverse }; row = row } in
+    let after = state_after p a b m inverse two K row places ks (ks ++ k ∷ []) k s ia ib refl er nz inverts em refl in
+    omega (arith, state_short p K (set (set places a (Some m)) b (Some m)) (ks ++ k ∷ []) after, length-append ks (k ∷ []), em)
+
 -- the steps are the old ones and that of a and b
 pub one_more : (a b : ℕ) (ks ks' : List KeptStep) (k : KeptStep) → ks' ≡ ks ++ k ∷ [] → k.step.a ≡ a → k.step.b ≡ b → IsOneMore (steps_of ks) (steps_of ks') a b
 one_more a b ks ks' k e ea eb = record {

@@ -96,6 +96,10 @@ module _ (p n : ℕ) (degree : ℕ → ℕ) (two : 2 ≤ p) where
       let d : Same p (boundary_by n E (project_all p D ss (single b)) g) (boundary_by n E (single b) g) = total_same p n (λ h. project_all p D ss (single b) h * E h g) (λ h. single b h * E h g) (λ h _. same-mul (project_left D ss bd l (single b) (single_left p ss b u) h) (same_refl p (E h g))) in
       same_trans a (same_trans (same_sym c) (same_trans d (exact p _ _ (total_picked_other n b (λ h. E h g) q))))
 
+  -- a boundary that meets no step is what the steps leave of it
+  pub row_kept : (D : ℕ → ℕ → ℕ) (ss : List Step) → IsBoundary p n degree D → AreSteps p n D ss → (b : ℕ) → b < n → IsUnpaired ss b → IsOnLeft p ss (D b) → (g : ℕ) → Same p (D b g) (left_all p D ss b g)
+  row_kept D ss bd l b q u off g = same_trans (same_sym (project_left D ss bd l (D b) off g)) (row_projected D ss bd l b q u g)
+
   -- ---- the homotopy, step by step
 
   -- each step gives its b, as the steps before it include it

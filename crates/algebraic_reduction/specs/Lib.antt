@@ -3,6 +3,7 @@ pub mod Laws
 pub mod LogWords
 pub mod Maps
 pub mod Parts
+pub mod Places
 pub mod Reduction
 pub mod Restrictions
 pub mod State

@@ -1,5 +1,5 @@
 //! The descent of a chain along the rows of the steps.
-ghost use Rattle.std.specs.Prelude.{◌<◌, ◌≤◌, length, IfOk, OnOk, IfSome};
+ghost use Rattle.std.specs.Prelude.{◌<◌, ◌≤◌, length, IfOk, OnOk, IfSome, IsTrue};
 ghost use Rattle.algebraic_reduction.specs.Reduction.{IsUnpaired};
 ghost use Rattle.algebraic_reduction.specs.Kept.{steps_of};
 ghost use Rattle.algebraic_reduction.specs.LogWords.{Gives, left_at, projection};
@@ -7,9 +7,14 @@ ghost use Rattle.algebraic_reduction.specs.Parts.{only, multiple, Holds, seen, I
 
 use crate::numbers::Numbers;
 use crate::parts::{Parts, place_of};
+use crate::place::Place;
 use chains::Chain;
 use field_mod::Field;
+use smallvec::SmallVec;
 use std::alloc::{AllocError, Global};
+
+/// Numbers, each with its generator or its step. Up to four of them need no allocation.
+pub type Terms = SmallVec<(u32, u16), 4>;
 
 /// The step from `from` on and before `bound` whose a the generator is.
 fn step_of_a<const P: u16>(parts: &Parts<P>, generator: u32, from: u32, bound: u32) -> Option<u32>
@@ -36,7 +41,7 @@ fn spread_one<const P: u16>(
     from: u32,
     bound: u32,
     pending: &mut Numbers<P>,
-    left: &mut Vec<(u32, u16)>,
+    left: &mut Terms,
 ) -> Result<(), AllocError>
     requires below { number < P }
     requires bounded { bound ≤ length parts.now.steps.items }
@@ -65,7 +70,7 @@ fn spread<const P: u16>(
     from: u32,
     bound: u32,
     pending: &mut Numbers<P>,
-    left: &mut Vec<(u32, u16)>,
+    left: &mut Terms,
 ) -> Result<(), AllocError>
     requires below { scale < P }
     requires bounded { bound ≤ length parts.now.steps.items }
@@ -89,8 +94,8 @@ fn spread<const P: u16>(
 /// made its number: what its homotopy gives its b.
 #[derive(Drop)]
 pub struct Descended {
-    pub left: Vec<(u32, u16)>,
-    pub raised: Vec<(u32, u16)>,
+    pub left: Terms,
+    pub raised: Terms,
 }
 
 /// Moves what stands at the a of a step before `bound` along its row, step after step. Only steps
@@ -108,8 +113,8 @@ pub fn descend<const P: u16>(
         (λ d. DescendsTo P parts.now bound start.now d.left.items d.raised.items) }
 {
     let mut pending = Numbers::new(alloc, field);
-    let mut left = Vec::new(alloc);
-    let mut raised = Vec::new(alloc);
+    let mut left = SmallVec::new(alloc);
+    let mut raised = SmallVec::new(alloc);
     spread(parts, field, start, 1, 0, bound, &mut pending, &mut left)?;
     let mut from = 0;
     'descending: while let Some((place, number)) = pending.take_first() {
@@ -134,7 +139,7 @@ pub fn descend<const P: u16>(
 
 /// The terms at generators that are in no step.
 pub fn left_terms<const P: u16>(
-    places: &[Option<u32>],
+    places: &[Place],
     alloc: Global,
     field: Field<P>,
     chain: &Chain<P>,
@@ -167,12 +172,25 @@ pub fn project<const P: u16>(
     let descended = descend(parts, alloc, field, count, chain)?;
     let Descended { left, raised } = descended;
     drop(raised);
-    let projected = Chain::from_terms(alloc, field, &left)?;
+    let projected = Chain::from_terms(alloc, field, left.as_slice())?;
     Ok(projected)
 }
 
+/// Whether a chain has terms at generators alone that are in no step.
+fn is_off_steps<const P: u16>(places: &[Place], chain: &Chain<P>) -> bool
+    ensures { IsTrue result → IsOffSteps places.now chain.now }
+{
+    for index in 0..chain.len() {
+        let (generator, _) = chain.term(index);
+        if place_of(places, generator).is_some() {
+            return false;
+        }
+    }
+    true
+}
+
 /// What the steps leave of the boundary of a generator that is in none: the projection of its
-/// boundary.
+/// boundary. Most boundaries meet no step, and stay as they are.
 pub fn left_boundary<const P: u16>(
     parts: &Parts<P>,
     alloc: Global,
@@ -184,6 +202,11 @@ pub fn left_boundary<const P: u16>(
     requires state { Holds P parts.now }
     ensures { IfOk result (λ c. Gives P c (left_at P (seen P parts.now) generator)) }
 {
-    let left = project(parts, alloc, field, parts.complex.boundary(generator))?;
+    let boundary = parts.complex.boundary(generator);
+    if is_off_steps(&parts.places, boundary) {
+        let whole = boundary.copy(alloc)?;
+        return Ok(whole);
+    }
+    let left = project(parts, alloc, field, boundary)?;
     Ok(left)
 }

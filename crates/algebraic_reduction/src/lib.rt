@@ -12,6 +12,7 @@ mod maps;
 mod naming;
 mod numbers;
 mod parts;
+mod place;
 mod reducing;
 mod settling;
 

@@ -61,7 +61,7 @@ fn go_back<const P: u16>(
     let descended = descend(parts, alloc, field, place, parts.complex.boundary(b))?;
     let Descended { left, raised } = descended;
     drop(left);
-    turn_back(field, &raised, field.neg(number), count, pending)?;
+    turn_back(field, raised.as_slice(), field.neg(number), count, pending)?;
     Ok(())
 }
 
@@ -81,7 +81,7 @@ pub fn homotopy<const P: u16>(
     let Descended { left, raised } = descended;
     drop(left);
     let mut pending = Numbers::new(alloc, field);
-    turn_back(field, &raised, 1, count, &mut pending)?;
+    turn_back(field, raised.as_slice(), 1, count, &mut pending)?;
     let mut terms = Vec::new(alloc);
     let mut bound = count;
     'returning: while let Some((after, number)) = pending.take_first() {

@@ -7,6 +7,7 @@ ghost use Rattle.algebraic_reduction.specs.State.{IsState, place_at};
 ghost use Rattle.algebraic_reduction.specs.Parts.{Holds, Goes, IsAlive, seen, IsDone};
 
 use crate::kept::Kept;
+use crate::place::Place;
 use chains::{Chain, Complex};
 use field_mod::Field;
 use std::alloc::{AllocError, Global};
@@ -16,17 +17,17 @@ use std::alloc::{AllocError, Global};
 #[derive(Drop)]
 pub struct Parts<const P: u16> {
     pub complex: Complex<P>,
-    pub places: Vec<Option<u32>>,
+    pub places: Vec<Place>,
     pub steps: Vec<Kept<P>>,
 }
 
-fn no_places(alloc: Global, count: u32) -> Result<Vec<Option<u32>>, AllocError>
+fn no_places(alloc: Global, count: u32) -> Result<Vec<Place>, AllocError>
     ensures count { IfOk result (λ v. length v.items ≡ count) }
     ensures none { IfOk result (λ v. (g : ℕ) → place_at v.items g ≡ None) }
 {
     let mut places = Vec::with_capacity(alloc, count as usize)?;
     for _index in 0..count {
-        places.push(None)?;
+        places.push(Place::none())?;
     }
     Ok(places)
 }
@@ -47,12 +48,12 @@ pub fn start_parts<const P: u16>(alloc: Global, complex: Complex<P>) -> Result<P
 }
 
 /// The step that a generator is in.
-pub fn place_of(places: &[Option<u32>], generator: u32) -> Option<u32>
+pub fn place_of(places: &[Place], generator: u32) -> Option<u32>
     ensures { result ≡ place_at places.now generator }
 {
     let place = generator as usize;
     if place < places.len() {
-        places[place]
+        places[place].step()
     } else {
         None
     }
@@ -81,7 +82,7 @@ pub fn take_row<const P: u16>(
     let inverse = field.inv(row.coefficient(a));
     let place = parts.steps.len() as u32;
     parts.steps.push(Kept::new(a, b, inverse, row))?;
-    parts.places[a as usize] = Some(place);
-    parts.places[b as usize] = Some(place);
+    parts.places[a as usize] = Place::of(place);
+    parts.places[b as usize] = Place::of(place);
     Ok(())
 }

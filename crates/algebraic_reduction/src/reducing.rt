@@ -6,6 +6,8 @@ ghost use Rattle.algebraic_reduction.specs.Parts.{Holds, Goes, IsDone};
 
 use crate::descending::left_boundary;
 use crate::parts::{Parts, place_of, take_row};
+use crate::place::Place;
+use chains::Complex;
 use field_mod::Field;
 use reduction_order::{Plan, Turn};
 use std::alloc::{AllocError, Global};
@@ -51,7 +53,7 @@ fn reduce_degree<const P: u16>(
     ensures state { OnOk result (Holds P parts.new) }
     ensures goes { OnOk result (Goes P parts.old parts.new) }
 {
-    let count = plan.order(alloc, &parts.complex, &parts.places, degree)?;
+    let count = plan.order(alloc, &parts.complex, degree)?;
     for place in 0..count {
         make_turn(parts, alloc, field, plan, place)?;
     }
@@ -98,8 +100,22 @@ fn reduce_by_plan<const P: u16>(
     Ok(())
 }
 
-/// Reduces by pairs until no boundary is left: by a plan, and then what the plan has forgotten, one
-/// generator at a time.
+/// A plan for the generators of a complex; the places tell which are in a step.
+fn plan_of<const P: u16>(
+    alloc: Global,
+    complex: &Complex<P>,
+    places: &[Place],
+) -> Result<Plan, AllocError> {
+    let mut plan = Plan::new(alloc, complex.len())?;
+    for generator in 0..complex.len() {
+        let taken = place_of(places, generator).is_some();
+        plan.add(alloc, complex, generator, taken)?;
+    }
+    Ok(plan)
+}
+
+/// Reduces by pairs until no boundary is left: by a plan, and then those that have no turn in it,
+/// by their numbers.
 pub fn reduce_parts<const P: u16>(
     parts: &mut Parts<P>,
     alloc: Global,
@@ -110,7 +126,7 @@ pub fn reduce_parts<const P: u16>(
     ensures goes { OnOk result (Goes P parts.old parts.new) }
     ensures empty { OnOk result (NothingLeft P parts.new.complex (steps_of parts.new.steps.items)) }
 {
-    let mut plan = Plan::of(alloc, &parts.complex)?;
+    let mut plan = plan_of(alloc, &parts.complex, &parts.places)?;
     reduce_by_plan(parts, alloc, field, &mut plan)?;
     let count = parts.complex.len();
     for b in 0..count {

@@ -75,7 +75,8 @@ fn end_of(cell: &Cell, facet: &Cell) -> usize
 }
 
 // The boundary of a cell, of which only terms at cells of the list count. The terms that `terms` holds are not kept. For each
-// end of an axis `near` has the number of the facet that was found there last: cells in order have such facets in order.
+// end of an axis `near` has the number behind that of the facet that was found there last: cells in order have such facets
+// in order.
 fn boundary_among<const P: u16>(
     alloc: Global,
     field: Field<P>,
@@ -109,7 +110,7 @@ fn push_facet<const P: u16>(
     let Some(number) = cells.number_near(&cell, *near) else {
         return Ok(());
     };
-    *near = number;
+    *near = number.saturating_add(1);
     terms.push((number, field.of_i64(i64::from(sign))))?;
     Ok(())
 }

@@ -129,9 +129,17 @@ fn place_from(cells: &[Cell], cell: &Cell, near: u32) -> Option<usize>
     let first = near as usize;
     let end = (first + FEW).min(cells.len());
     for place in first..end {
-        if cells[place] == *cell {
+        if is_same(&cells[place], cell) {
             return Some(place);
         }
     }
     None
+}
+
+// Whether two cells are one. Most that are not differ in their axes, which are seen in one byte.
+#[tactic(auto, using(crate::proofs::Deciding::cell_true))]
+fn is_same(cell: &Cell, other: &Cell) -> bool
+    ensures { IsTrue result → cell.now ≡ other.now }
+{
+    cell.axes() == other.axes() && *cell == *other
 }

@@ -1,24 +1,29 @@
 //! What an order notes of each generator.
 use chains::Chain;
 use std::alloc::{AllocError, Global};
+use std::mem::size_of;
+
+/// Boundaries are counted up to this number: a generator that so many name never comes to be free.
+const MANY: u16 = u16::MAX;
 
 /// What is known of a generator: how many boundaries that wait for their place in the order name
-/// it, the exclusive or of the generators that they are the boundaries of, how much the rows weigh
-/// in which it stands, and whether it has its own place.
+/// it, and whether it has its own place. While any of them waits, `number` is the exclusive or of
+/// the generators that they are the boundaries of; it is 0 again when none does, and from then on
+/// it is how much the rows weigh in which the generator stands.
 #[derive(Clone, Copy)]
 struct Mark {
-    count: u32,
-    names: u32,
-    weight: u32,
+    number: u32,
+    count: u16,
     ordered: bool,
 }
 
 const NEW: Mark = Mark {
+    number: 0,
     count: 0,
-    names: 0,
-    weight: 0,
     ordered: false,
 };
+
+const _: () = prove!(size_of::<Mark>() == 8);
 
 /// A mark for each generator.
 #[derive(Drop)]
@@ -42,7 +47,7 @@ impl Marks {
 
     /// How much the rows weigh in which a generator stands.
     pub fn weight(&self, generator: u32) -> u32 {
-        self.of(generator).weight
+        self.of(generator).number
     }
 
     /// Whether one boundary alone names the generator.
@@ -54,13 +59,18 @@ impl Marks {
     pub fn only_coface(&self, generator: u32) -> Option<u32> {
         let mark = self.of(generator);
         if mark.count == 1 {
-            Some(mark.names)
+            Some(mark.number)
         } else {
             None
         }
     }
 
-    /// Whether a generator has its place in the order; from now on it has.
+    /// Whether a generator has its place in the order.
+    pub fn has_place(&self, generator: u32) -> bool {
+        self.of(generator).ordered
+    }
+
+    /// The same; from now on it has.
     pub fn take_place(&mut self, generator: u32) -> bool {
         match self.marks.get_mut(generator as usize) {
             Some(mark) => {
@@ -78,7 +88,7 @@ impl Marks {
             let (generator, _) = boundary.term(place);
             if let Some(mark) = self.marks.get_mut(generator as usize) {
                 mark.count = mark.count.saturating_add(1);
-                mark.names ^= b;
+                mark.number ^= b;
             }
         }
     }
@@ -88,8 +98,10 @@ impl Marks {
         for place in 0..boundary.len() {
             let (generator, _) = boundary.term(place);
             if let Some(mark) = self.marks.get_mut(generator as usize) {
-                mark.count = mark.count.saturating_sub(1);
-                mark.names ^= b;
+                if mark.count != MANY {
+                    mark.count = mark.count.saturating_sub(1);
+                }
+                mark.number ^= b;
             }
         }
     }
@@ -99,7 +111,7 @@ impl Marks {
         for place in 0..row.len() {
             let (generator, _) = row.term(place);
             if let Some(mark) = self.marks.get_mut(generator as usize) {
-                mark.weight = mark.weight.saturating_add(more);
+                mark.number = mark.number.saturating_add(more);
             }
         }
     }

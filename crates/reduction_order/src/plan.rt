@@ -14,6 +14,9 @@ pub struct Turn {
 /// Up to so many degrees free pairs are taken from one free face on, else from all at once.
 const FEW_DEGREES: usize = 4;
 
+/// From this degree on generators have turns.
+const TURNS_FROM: usize = 2;
+
 /// The generators of each degree, marks, free faces that wait for their turn, and the order of one
 /// degree.
 #[derive(Drop)]
@@ -25,27 +28,50 @@ pub struct Plan {
 }
 
 impl Plan {
-    /// The plan for a complex.
-    pub fn of<const P: u16>(alloc: Global, complex: &Complex<P>) -> Result<Plan, AllocError> {
-        let mut plan = Plan {
-            marks: Marks::new(alloc, complex.len())?,
+    /// A plan for so many generators, of which none is known yet.
+    pub fn new(alloc: Global, count: u32) -> Result<Plan, AllocError> {
+        Ok(Plan {
+            marks: Marks::new(alloc, count)?,
             degrees: Vec::new(alloc),
             free: VecDeque::new(alloc),
             order: Vec::new(alloc),
-        };
-        for generator in 0..complex.len() {
-            plan.list(alloc, generator, complex.degree(generator))?;
-        }
-        Ok(plan)
+        })
     }
 
-    fn list(&mut self, alloc: Global, generator: u32, degree: u8) -> Result<(), AllocError> {
-        let place = degree as usize;
-        for _missing in self.degrees.len()..place.saturating_add(1) {
+    /// One more generator of the complex, which is in a step or is not. In degree 1 it has no turn:
+    /// there no row has more than two terms, and the order of the numbers serves as well, which
+    /// needs no list.
+    pub fn add<const P: u16>(
+        &mut self,
+        alloc: Global,
+        complex: &Complex<P>,
+        generator: u32,
+        taken: bool,
+    ) -> Result<(), AllocError> {
+        if generator >= complex.len() {
+            return Ok(());
+        }
+        let degree = complex.degree(generator) as usize;
+        self.make_room(alloc, degree)?;
+        if taken {
+            let _ = self.marks.take_place(generator);
+        }
+        if degree < TURNS_FROM || complex.boundary(generator).is_empty() {
+            return Ok(());
+        }
+        self.list(generator, degree)
+    }
+
+    fn make_room(&mut self, alloc: Global, degree: usize) -> Result<(), AllocError> {
+        for _missing in self.degrees.len()..degree.saturating_add(1) {
             self.degrees.push(Vec::new(alloc))?;
         }
-        if place < self.degrees.len() {
-            self.degrees[place].push(generator)?;
+        Ok(())
+    }
+
+    fn list(&mut self, generator: u32, degree: usize) -> Result<(), AllocError> {
+        if degree < self.degrees.len() {
+            self.degrees[degree].push(generator)?;
         }
         Ok(())
     }
@@ -60,16 +86,13 @@ impl Plan {
         self.order.get(place).copied()
     }
 
-    /// Puts the generators of a degree that are in no step into an order, and answers how many they
-    /// are; `places` has the step of each generator that is in one. From degree 2 on what can be
-    /// taken by free pairs comes first; where none is free, one generator is set aside to the end.
-    /// So nearly all rows stay as they are. In degree 1 the order is that of the numbers: no row of
-    /// points has more than two terms.
+    /// Puts the generators of a degree that have a turn and are in no step into an order, and
+    /// answers how many they are. What can be taken by free pairs comes first; where none is free,
+    /// one generator is set aside to the end. So nearly all rows stay as they are.
     pub fn order<const P: u16>(
         &mut self,
         alloc: Global,
         complex: &Complex<P>,
-        places: &[Option<u32>],
         degree: usize,
     ) -> Result<usize, AllocError> {
         self.order = Vec::new(alloc);
@@ -77,32 +100,14 @@ impl Plan {
         if degree < self.degrees.len() {
             std::mem::swap(&mut generators, &mut self.degrees[degree]);
         }
-        if degree < 2 {
-            self.order_as_numbered(&generators)?;
-        } else {
-            self.count_waiting(complex, places, &generators);
-            self.order_free_first(alloc, complex, &generators)?;
-        }
+        self.count_waiting(complex, &generators);
+        self.order_free_first(alloc, complex, &generators)?;
         Ok(self.order.len())
     }
 
-    fn order_as_numbered(&mut self, generators: &[u32]) -> Result<(), AllocError> {
+    fn count_waiting<const P: u16>(&mut self, complex: &Complex<P>, generators: &[u32]) {
         for b in generators {
-            self.order.push(Turn { b: *b, a: *b })?;
-        }
-        Ok(())
-    }
-
-    fn count_waiting<const P: u16>(
-        &mut self,
-        complex: &Complex<P>,
-        places: &[Option<u32>],
-        generators: &[u32],
-    ) {
-        for b in generators {
-            if places.get(*b as usize).copied().flatten().is_some() {
-                let _ = self.marks.take_place(*b);
-            } else if *b < complex.len() {
+            if *b < complex.len() && !self.marks.has_place(*b) {
                 self.marks.count(*b, complex.boundary(*b));
             }
         }
@@ -194,12 +199,12 @@ impl Plan {
         let mut aside = Vec::new(alloc);
         for b in generators {
             if *b < complex.len() && !self.marks.take_place(*b) {
-                aside.push(*b)?;
+                aside.push(Turn { b: *b, a: *b })?;
                 self.uncount(complex.boundary(*b), *b)?;
                 self.order_free(complex)?;
             }
         }
-        self.order_as_numbered(&aside)?;
+        self.order.append(&mut aside)?;
         Ok(())
     }
 
@@ -222,8 +227,10 @@ impl Plan {
         best
     }
 
-    /// A step by this row and a generator in it is made: the others become heavier.
+    /// A step by this row and a generator in it is made: the others become heavier, and this one
+    /// needs no turn of its own.
     pub fn weigh<const P: u16>(&mut self, row: &Chain<P>, a: u32) {
+        let _ = self.marks.take_place(a);
         let more = self.marks.weight(a).saturating_add(1);
         self.marks.weigh(row, more);
     }

@@ -49,7 +49,7 @@ descending-preserved g c =
       way = way_next g.row.P (length p.complex.boundaries) (grade p.complex.degrees) two (incidence p.complex.boundaries) p.places.items p.steps.items c.args.bound c.requires.bounded (is_boundary g.row.P p.complex c.requires.state.complex) c.requires.state.steps c.requires.state.kept c.args.start.now c.descending.left.items c.descending.raised.items c.descending.pending c.take_first.new.self c.spread-in-Some.new.left.items c.push.new.self.items c.spread-in-Some.new.pending c.descending.from i c.in-Some.number c.mul-weight.result c.neg-scale.result c.descending.invariant.way o.number o.nonzero o.others o.later
           (c.mul-weight.ensures.value ∙ ap (λ v. (v * c.in-Some.number) % g.row.P) (c.inverse.ensures.value ∙ ap (λ (k : KeptStep). k.step.inverse) step))
           c.neg-scale.ensures.value
-          c.in_ok-push.ensures.items
+          c.in_ok-push.ensures.ok
           (λ h n. subst (λ (t : List (ℕ × ℕ)). Same g.row.P (coefficient c.spread-in-Some.new.left.items h) (coefficient c.descending.left.items h + c.neg-scale.result * coefficient t h)) row (e.left h n))
           e.dropped
           (λ j a b. subst (λ (t : List (ℕ × ℕ)). Same g.row.P (coefficient c.spread-in-Some.new.pending j) (coefficient c.take_first.new.self j + c.neg-scale.result * coefficient t (a_at p.steps.items j))) row (e.pending j a b))

@@ -13,4 +13,4 @@ returns g c =
     let p = c.args.parts.now in
     let d = c.in_ok-descended.descended in
     way_projects g.row.P c.len-count.result (two_le g.row.P c.args.field.listed) p.complex p.places.items p.steps.items c.requires.state (c.len-count.ensures ∙ p.steps.ok.0) c.args.chain.now d.left.items d.raised.items c.in_ok-projected.projected c.in_ok-descended.ensures
-    (λ h. c.in_ok-projected.ensures.sum h ∙ ap (λ (t : List (ℕ × ℕ)). coefficient t h % g.row.P) c.deref.ensures.value)
+    (λ h. c.in_ok-projected.ensures.sum h ∙ ap (λ (t : List (ℕ × ℕ)). coefficient t h % g.row.P) c.as_slice.ensures)

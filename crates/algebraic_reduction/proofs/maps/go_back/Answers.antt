@@ -26,9 +26,9 @@ returns-clause-sum g c =
     let l : c.args.place < length p.steps.items = omega (arith, c.requires.inside, c.requires.count) in
     let step : c.index.result.now ≡ nth p.steps.items c.args.place = c.index.ensures ∙ get_or_default p.steps.items c.args.place c.index.result.now no_step l in
     let eb : c.b-b.result ≡ b_at p.steps.items c.args.place = c.b-b.ensures ∙ ap (λ (k : KeptStep). k.step.b) step in
-    back_sum g.row.P c.args.place c.args.count c.args.number c.neg.result p.complex p.places.items p.steps.items c.boundary.result.now d.left.items c.deref.result.now c.args.pending.now c.turn_back.new.pending l c.requires.below c.neg.ensures.value
+    back_sum g.row.P c.args.place c.args.count c.args.number c.neg.result p.complex p.places.items p.steps.items c.boundary.result.now d.left.items c.as_slice.result.now c.args.pending.now c.turn_back.new.pending l c.requires.below c.neg.ensures.value
     (c.boundary.ensures.value ∙ ap (λ (x : ℕ). get_or p.complex.boundaries x []) eb)
-    (subst (λ (ts : List (ℕ × ℕ)). HasDescended g.row.P (incidence p.complex.boundaries) p.places.items (take c.args.place p.steps.items) (coefficient c.boundary.result.now) d.left.items ts) (sym c.deref.ensures.value) c.in_ok-descended.ensures)
+    (subst (λ (ts : List (ℕ × ℕ)). HasDescended g.row.P (incidence p.complex.boundaries) p.places.items (take c.args.place p.steps.items) (coefficient c.boundary.result.now) d.left.items ts) (sym c.as_slice.ensures) c.in_ok-descended.ensures)
     c.requires.inside c.in_ok-turn_back.ensures.sum
 
 pub returns-clause-inside : goal.returns-clause-inside
@@ -38,7 +38,7 @@ returns-clause-inside g c =
     let l : c.args.place < length p.steps.items = omega (arith, c.requires.inside, c.requires.count) in
     let step : c.index.result.now ≡ nth p.steps.items c.args.place = c.index.ensures ∙ get_or_default p.steps.items c.args.place c.index.result.now no_step l in
     let eb : c.b-b.result ≡ b_at p.steps.items c.args.place = c.b-b.ensures ∙ ap (λ (k : KeptStep). k.step.b) step in
-    back_inside g.row.P c.args.place c.args.count c.args.number c.neg.result p.complex p.places.items p.steps.items c.boundary.result.now d.left.items c.deref.result.now c.args.pending.now c.turn_back.new.pending l c.requires.below c.neg.ensures.value
+    back_inside g.row.P c.args.place c.args.count c.args.number c.neg.result p.complex p.places.items p.steps.items c.boundary.result.now d.left.items c.as_slice.result.now c.args.pending.now c.turn_back.new.pending l c.requires.below c.neg.ensures.value
     (c.boundary.ensures.value ∙ ap (λ (x : ℕ). get_or p.complex.boundaries x []) eb)
-    (subst (λ (ts : List (ℕ × ℕ)). HasDescended g.row.P (incidence p.complex.boundaries) p.places.items (take c.args.place p.steps.items) (coefficient c.boundary.result.now) d.left.items ts) (sym c.deref.ensures.value) c.in_ok-descended.ensures)
+    (subst (λ (ts : List (ℕ × ℕ)). HasDescended g.row.P (incidence p.complex.boundaries) p.places.items (take c.args.place p.steps.items) (coefficient c.boundary.result.now) d.left.items ts) (sym c.as_slice.ensures) c.in_ok-descended.ensures)
     c.requires.inside c.in_ok-turn_back.ensures.inside

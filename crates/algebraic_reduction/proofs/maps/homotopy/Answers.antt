@@ -22,8 +22,8 @@ returning-init g c =
     let d = c.in_ok-descended.descended in
     let ec : c.len-count.result ≡ length p.steps.items = c.len-count.ensures ∙ p.steps.ok.0 in
     subst (λ (m : ℕ). Returning g.row.P (length p.complex.boundaries) (incidence p.complex.boundaries) p.steps.items (coefficient c.args.chain.now) c.new-terms.result.items c.turn_back.new.pending m) (sym ec)
-    (returning_begin g.row.P (two_le g.row.P c.args.field.listed) c.len-count.result p.complex p.places.items p.steps.items c.requires.state c.args.chain.now d.left.items c.deref.result.now c.new-pending.result c.turn_back.new.pending c.new-terms.result.items ec
-    (subst (λ (ts : List (ℕ × ℕ)). HasDescended g.row.P (incidence p.complex.boundaries) p.places.items (take c.len-count.result p.steps.items) (coefficient c.args.chain.now) d.left.items ts) (sym c.deref.ensures.value) c.in_ok-descended.ensures)
+    (returning_begin g.row.P (two_le g.row.P c.args.field.listed) c.len-count.result p.complex p.places.items p.steps.items c.requires.state c.args.chain.now d.left.items c.as_slice.result.now c.new-pending.result c.turn_back.new.pending c.new-terms.result.items ec
+    (subst (λ (ts : List (ℕ × ℕ)). HasDescended g.row.P (incidence p.complex.boundaries) p.places.items (take c.len-count.result p.steps.items) (coefficient c.args.chain.now) d.left.items ts) (sym c.as_slice.ensures) c.in_ok-descended.ensures)
     c.new-pending.ensures c.new-terms.ensures.items c.in_ok-turn_back.ensures.sum c.in_ok-turn_back.ensures.inside)
 
 pub returning-preserved : goal.returning-preserved
@@ -47,4 +47,4 @@ pub returns : goal.returns
 returns g c =
     let p = c.args.parts.now in
     returning_end g.row.P (length p.complex.boundaries) (grade p.complex.degrees) (two_le g.row.P c.args.field.listed) (incidence p.complex.boundaries) p.steps.items (is_boundary g.row.P p.complex c.requires.state.complex) c.requires.state.steps (coefficient c.args.chain.now) c.returning.terms.items c.returning.pending c.in_ok-sum.sum c.returning.bound c.returning.invariant c.in_default.ensures.none
-    (λ h. reduced g.row.P _ _ (c.in_ok-sum.ensures.sum h ∙ ap (λ (t : List (ℕ × ℕ)). coefficient t h % g.row.P) c.deref-2.ensures.value))
+    (λ h. reduced g.row.P _ _ (c.in_ok-sum.ensures.sum h ∙ ap (λ (t : List (ℕ × ℕ)). coefficient t h % g.row.P) c.deref.ensures.value))
