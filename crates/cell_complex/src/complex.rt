@@ -14,8 +14,9 @@ use std::alloc::{AllocError, Global};
 // Room for the two ends of each axis, where an axis is told by its bit in a byte.
 const ENDS: usize = 512;
 
-/// The chain complex whose generators are the numbers of the cells, which are the relative cells of a pair: the degree
-/// of a cell is its dimension, and its boundary is the cubical boundary among these cells.
+/// The chain complex whose generators are the numbers of the cells, which are the relative cells of
+/// a pair: the degree of a cell is its dimension, and its boundary is the cubical boundary among
+/// these cells.
 pub fn complex_of<const P: u16>(
     alloc: Global,
     field: Field<P>,
@@ -54,7 +55,8 @@ fn boundaries_of<const P: u16>(
     field: Field<P>,
     cells: &Numbered,
 ) -> Result<Vec<Chain<P>>, AllocError>
-    ensures { IfOk result (λ boundaries. AreBoundaries P cells.now boundaries.items × (length boundaries.items ≡ length cells.now)) }
+    ensures { IfOk result (λ boundaries. AreBoundaries P cells.now boundaries.items
+        × (length boundaries.items ≡ length cells.now)) }
 {
     let mut boundaries = Vec::with_capacity(alloc, cells.len() as usize)?;
     let mut terms = Vec::new(alloc);
@@ -74,9 +76,9 @@ fn end_of(cell: &Cell, facet: &Cell) -> usize
     2 * axis + usize::from(cell.lower() == facet.lower())
 }
 
-// The boundary of a cell, of which only terms at cells of the list count. The terms that `terms` holds are not kept. For each
-// end of an axis `near` has the number behind that of the facet that was found there last: cells in order have such facets
-// in order.
+// The boundary of a cell, of which only terms at cells of the list count. The terms that `terms`
+// holds are not kept. For each end of an axis `near` has the number behind that of the facet that
+// was found there last: cells in order have such facets in order.
 fn boundary_among<const P: u16>(
     alloc: Global,
     field: Field<P>,

@@ -13,8 +13,8 @@ pub fn differences_are_complexes()
     ensures { DifferencesAreComplexes }
 {}
 
-/// The relative complex of any two sets is a complex: boundaries of boundaries are 0, and the boundary is linear and
-/// lowers degrees by one.
+/// The relative complex of any two sets is a complex: boundaries of boundaries are 0, and the
+/// boundary is linear and lowers degrees by one.
 #[tactic(auto, using(crate::proofs::Squares::relative_complexes_are_complexes))]
 pub fn relative_complexes_are_complexes()
     ensures { RelativeComplexesAreComplexes }
@@ -25,7 +25,8 @@ pub fn numbered_cells_are_complex()
     ensures { NumberedCellsAreComplex }
 {}
 
-/// Chains, cycles, null chains and bases over the numbers of the relative cells are those over the cells, and back.
+/// Chains, cycles, null chains and bases over the numbers of the relative cells are those over the
+/// cells, and back.
 #[tactic(auto, using(crate::proofs::ByCell::bases_are_by_number_or_cell))]
 pub fn bases_are_by_number_or_cell()
     ensures { BasesAreByNumberOrCell }

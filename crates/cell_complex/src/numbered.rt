@@ -13,8 +13,9 @@ use std::marker::Model;
 // How many cells are looked at one by one before a search of all.
 const FEW: usize = 16;
 
-/// Distinct cells in the order of cells, seen as their list: fewer than 2^32, with as many factors as each other and
-/// within the range of the files. The number of a cell is its place, counted from 0.
+/// Distinct cells in the order of cells, seen as their list: fewer than 2^32, with as many factors
+/// as each other and within the range of the files. The number of a cell is its place, counted from
+/// 0.
 #[derive(Drop)]
 pub struct Numbered {
     cells: Vec<Cell>,

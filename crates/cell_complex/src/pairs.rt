@@ -18,19 +18,21 @@ use std::cmp::Ordering;
 /// The most cells that the two sets of a pair have together.
 pub const CELLS: usize = 4_194_304;
 
-/// The relative cells of a pair: the faces of members of `x` that are not faces of members of `a`. `TooManyCells` comes
-/// exactly where there are more than `CELLS` faces of members of both sets together.
+/// The relative cells of a pair: the faces of members of `x` that are not faces of members of `a`.
+/// `TooManyCells` comes exactly where there are more than `CELLS` faces of members of both sets
+/// together.
 pub fn relative(alloc: Global, x: &CubeSet, a: &CubeSet) -> Result<Numbered, CellsFault>
     ensures cells { IfOk result (IsListing (is_relative x.now.cells a.now.cells)) }
     ensures pair { IfOk result IsOfPair }
     ensures few { OnOk result (cell_count (x.now.cells ++ a.now.cells) ≤ CELLS) }
-    ensures many { result ≡ Err CellsFault.TooManyCells → CELLS < cell_count (x.now.cells ++ a.now.cells) }
+    ensures many { result ≡ Err CellsFault.TooManyCells
+        → CELLS < cell_count (x.now.cells ++ a.now.cells) }
 {
     relative_within(alloc, x, a, CELLS)
 }
 
-/// The relative cells of a pair, where both sets together have no more than so many cells. `TooManyCells` comes exactly
-/// where they have more.
+/// The relative cells of a pair, where both sets together have no more than so many cells.
+/// `TooManyCells` comes exactly where they have more.
 pub fn relative_within(
     alloc: Global,
     x: &CubeSet,
@@ -41,7 +43,8 @@ pub fn relative_within(
     ensures cells { IfOk result (IsListing (is_relative x.now.cells a.now.cells)) }
     ensures pair { IfOk result IsOfPair }
     ensures few { OnOk result (cell_count (x.now.cells ++ a.now.cells) ≤ limit) }
-    ensures many { result ≡ Err CellsFault.TooManyCells → limit < cell_count (x.now.cells ++ a.now.cells) }
+    ensures many { result ≡ Err CellsFault.TooManyCells
+        → limit < cell_count (x.now.cells ++ a.now.cells) }
 {
     let subset = faces_within(alloc, a, limit)?;
     let faces = faces_within(alloc, x, limit)?;
