@@ -2,16 +2,11 @@
 use Rattle.std.specs.Prelude.{◌≡◌, ℕ, ◌<◌, List, [], slice_index, slice_index_or}
 use Rattle.leray_conley.specs.Tables.{Table, entry}
 use Rattle.leray_conley.specs.Ranks.{IsRank}
-use Rattle.induced_map.specs.Matrices.{none}
 use Rattle.map_homology.specs.Filled.{IsFilled}
 
 -- the entry in row i and column j of these rows
 abbrev pub entry_of : List (List ℕ) → ℕ → ℕ → ℕ
 entry_of rows i j = slice_index (slice_index_or rows i []) j
-
--- the matrix of a number
-abbrev pub nth : List Table → ℕ → Table
-nth all k = slice_index_or all k none
 
 -- the row i of the matrix, whose entries are below p
 abbrev pub IsRowOf : ℕ → Table → ℕ → List ℕ → Type 0

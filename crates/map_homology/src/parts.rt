@@ -18,8 +18,8 @@ pub(crate) fn part_of<B: HasCycles>(
     most: u8,
 ) -> Result<PairReport, NoMemory>
     requires { (k : ℕ) → k ≤ most
-        → CanNameAll (AreNumbersIn 0 (length pair.entry.cells)) (in_degree (B.cycles basis.now) k) }
-    ensures { IfOk result (IsPartOf pair.entry (B.cycles basis.now) most) }
+        → CanNameAll (AreNumbersIn 0 (length pair.cells)) (in_degree (B.cycles basis.now) k) }
+    ensures { IfOk result (IsPartOf pair (B.cycles basis.now) most) }
 {
     let PairCells { cells, grown, left } = pair;
     let (dimensions, cycles) = cycles_by_degree(alloc, &cells, basis, most)?;

@@ -52,10 +52,10 @@ fn report_of<const P: u16>(
     range: PairCells,
     basis: &Basis<P>,
 ) -> Result<MapReport, NoMemory>
-    requires bases { AreBasesOfMap P carrier.entry domain.entry cycles.now range.entry basis.now }
-    requires few { HaveFewEntries cycles.now basis.now carrier.entry.dimension }
+    requires bases { AreBasesOfMap P carrier domain cycles.now range basis.now }
+    requires few { HaveFewEntries cycles.now basis.now carrier.dimension }
     ensures { IfOk result (λ report. (m : PairMaps)
-        → AreBasesOf P m carrier.entry domain.entry cycles.now range.entry basis.now
+        → AreBasesOf P m carrier.entry domain cycles.now range basis.now
         → IsRightMap P m report) }
 {
     let last = carrier.dimension();
@@ -70,13 +70,13 @@ fn report_of<const P: u16>(
         &mut selector,
     )?;
     let ranks = ranks_of(alloc, field, &all)?;
-    let matrices = tables_of(alloc, &all)?;
+    let tables = tables_of(alloc, &all)?;
     let domain = part_of(alloc, domain, cycles, last)?;
     let range = part_of(alloc, range, basis, last)?;
     Ok(MapReport {
         domain,
         range,
         ranks,
-        matrices,
+        matrices: tables,
     })
 }

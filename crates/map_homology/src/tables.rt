@@ -1,7 +1,8 @@
 //! Matrices as they are printed, and their ranks.
 ghost use Rattle.std.specs.Prelude.{◌≡◌, ◌<◌, length, IfOk, []};
+ghost use Rattle.induced_map.specs.Matrices.{nth};
 ghost use Rattle.map_homology.specs.Filled.{IsFilled};
-ghost use Rattle.map_homology.specs.Tables.{IsRowOf, AreRowsOf, IsRankOf, nth};
+ghost use Rattle.map_homology.specs.Tables.{IsRowOf, AreRowsOf, IsRankOf};
 
 use field_mod::Field;
 use leray_conley::Matrix;
