@@ -24,7 +24,12 @@ IsChainText shown content text = (dimensions : List ℕ) × (cycles : CyclesOver
 
 -- how the report is printed
 abbrev pub shown_of : ChainJob → Shown
-shown_of job = record { modulus = job.modulus; cycles = job.cycles; stats = false }
+shown_of job = record {
+  modulus = job.modulus;
+  cycles = job.cycles;
+  matrix = false;
+  stats = false;
+}
 
 unfoldable pub chain_job : ChainJob → Job
 chain_job job = record {

@@ -36,6 +36,7 @@ impl ChainJob {
         Shown {
             modulus: self.modulus.number(),
             cycles: self.cycles,
+            matrix: false,
             stats: false,
         }
     }

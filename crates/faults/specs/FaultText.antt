@@ -8,7 +8,7 @@ use Rattle.elem_cubes.specs.Cells.{Factor, lower_of}
 use Rattle.corner_texts.specs.CornerText.{corner_text}
 use Rattle.faults.specs.ChainText.{cell_text, chain_text}
 use Rattle.faults.specs.declared.limit_name.LimitName.{LimitName}
-use Rattle.faults.specs.declared.limit_name.LimitName.TheVariants.{FileBytes, Cubes, MapPairs, Cells, Generators, Terms, Coordinates}
+use Rattle.faults.specs.declared.limit_name.LimitName.TheVariants.{FileBytes, Cubes, MapPairs, Cells, MatrixEntries, Generators, Terms, Coordinates}
 
 -- the name of a count that has a limit
 abbrev pub limit_name : LimitName → List ℕ
@@ -16,6 +16,7 @@ limit_name FileBytes = codes "file-bytes"
 limit_name Cubes = codes "cubes"
 limit_name MapPairs = codes "map-pairs"
 limit_name Cells = codes "cells"
+limit_name MatrixEntries = codes "matrix-entries"
 limit_name Generators = codes "generators"
 limit_name Terms = codes "terms"
 limit_name Coordinates = codes "coordinates"

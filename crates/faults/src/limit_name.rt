@@ -15,6 +15,8 @@ pub enum LimitName {
     MapPairs,
     /// The cells of a pair.
     Cells,
+    /// The entries of the matrix of a map in one degree.
+    MatrixEntries,
     /// The generators of one chain file.
     Generators,
     /// The terms of one chain file.
@@ -33,6 +35,7 @@ impl LimitName {
             LimitName::Cubes => "cubes",
             LimitName::MapPairs => "map-pairs",
             LimitName::Cells => "cells",
+            LimitName::MatrixEntries => "matrix-entries",
             LimitName::Generators => "generators",
             LimitName::Terms => "terms",
             LimitName::Coordinates => "coordinates",

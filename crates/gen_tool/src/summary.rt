@@ -28,6 +28,7 @@ pub fn summary_text(alloc: Global, summary: Summary, modulus: u16) -> Result<Vec
     let shown = Shown {
         modulus,
         cycles: false,
+        matrix: false,
         stats: false,
     };
     let groups = text(alloc, &Report::Pair(summary.homology), &shown)?;

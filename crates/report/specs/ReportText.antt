@@ -1,9 +1,11 @@
 -- The texts of reports.
 use Rattle.std.specs.Prelude.{ℕ, ◌+◌, ◌==◌, if◌then◌else◌, List, [], ◌∷◌, ◌++◌, get_or, length, codes, decimal}
+use Rattle.std.specs.List.{flat_map}
 use Rattle.faults.specs.ChainText.{cell_text, number_text, chain_text}
 use Rattle.report.specs.declared.pair.PairReport.{PairReport}
+use Rattle.report.specs.declared.map_report.MapReport.{MapReport}
 use Rattle.report.specs.declared.reports.Report.{Report}
-use Rattle.report.specs.declared.reports.Report.TheVariants.{Pair, Chain}
+use Rattle.report.specs.declared.reports.Report.TheVariants.{Pair, Map, Chain}
 use Rattle.report.specs.declared.reports.Shown.{Shown}
 
 -- the vector space of that dimension over the field of p elements: 0, Z_p or Z_p^d
@@ -61,9 +63,54 @@ count_lines pair = count_line (codes "cells") pair.cells
 abbrev pub shown_counts : Shown → PairReport → List ℕ
 shown_counts shown pair = if shown.stats then count_lines pair else []
 
--- the text of a report
-abbrev pub report_text : Report → Shown → List ℕ
-report_text (Pair pair) shown =
+-- the lines on a pair
+abbrev pub pair_lines : PairReport → Shown → List ℕ
+pair_lines pair shown =
     group_lines cell_text shown.modulus pair.dimensions (shown_cycles shown pair.cycles)
     ++ shown_counts shown pair
+
+-- ---- maps
+
+-- an entry of a matrix, behind a space
+abbrev pub entry_text : ℕ → List ℕ
+entry_text entry = codes " " ++ decimal entry
+
+-- the line on a row of a matrix: two spaces, then the entries with one space between them; a row
+-- without entries has no line
+abbrev pub row_line : List ℕ → List ℕ
+row_line [] = []
+row_line (entry ∷ entries) =
+    codes " " ++ flat_map entry_text (entry ∷ entries) ++ codes "\n"
+
+-- the line on the rank of a map in degree k
+abbrev pub rank_line : ℕ → ℕ → List ℕ
+rank_line k rank = codes "F_" ++ decimal k ++ codes " rank " ++ decimal rank ++ codes "\n"
+
+-- the lines on a map in degree k: its rank, and the rows of its matrix
+abbrev pub map_degree_lines : ℕ → ℕ → List (List ℕ) → List ℕ
+map_degree_lines k rank rows = rank_line k rank ++ flat_map row_line rows
+
+-- the lines of degree k and up, for these ranks and the matrices of all degrees from 0
+abbrev pub map_lines_from : ℕ → List ℕ → List (List (List ℕ)) → List ℕ
+map_lines_from k [] matrices = []
+map_lines_from k (rank ∷ ranks) matrices =
+    map_degree_lines k rank (get_or matrices k []) ++ map_lines_from (k + 1) ranks matrices
+
+-- the matrices that are printed
+abbrev pub shown_matrices : Shown → List (List (List ℕ)) → List (List (List ℕ))
+shown_matrices shown matrices = if shown.matrix then matrices else []
+
+-- the lines on a map, and on the pairs between which it goes
+abbrev pub map_text : MapReport → Shown → List ℕ
+map_text map shown =
+    codes "domain\n" ++ pair_lines map.domain shown
+    ++ codes "range\n" ++ pair_lines map.range shown
+    ++ codes "map\n" ++ map_lines_from 0 map.ranks (shown_matrices shown map.matrices.items)
+
+-- ---- reports
+
+-- the text of a report
+abbrev pub report_text : Report → Shown → List ℕ
+report_text (Pair pair) shown = pair_lines pair shown
+report_text (Map map) shown = map_text map shown
 report_text (Chain dimensions cycles) shown = group_lines number_text shown.modulus dimensions (shown_cycles shown cycles)

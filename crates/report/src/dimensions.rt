@@ -1,9 +1,10 @@
-//! Dimensions of homology groups by degree, which contracts see as a list of numbers.
+//! Dimensions and ranks by degree, which contracts see as a list of numbers.
 ghost use Rattle.std.specs.Prelude.{◌≡◌};
 
 use std::marker::Model;
 
-/// The dimensions of the homology groups over the chosen field, by degree from 0.
+/// Dimensions over the chosen field, by degree from 0: of homology groups, or of the images of a
+/// map, which are its ranks.
 #[derive(Debug, Drop)]
 pub struct Dimensions {
     by_degree: Vec<u32>,

@@ -4,10 +4,15 @@
 mod cycles;
 mod dimensions;
 mod lines;
+mod map_lines;
+mod map_report;
 mod pair;
 mod reports;
+mod rows;
 
 pub use cycles::Cycles;
 pub use dimensions::Dimensions;
+pub use map_report::MapReport;
 pub use pair::PairReport;
 pub use reports::{Report, Shown, text};
+pub use rows::Rows;

@@ -1,11 +1,19 @@
 //! The lines on homology groups, on the cycles of their bases, and on counts.
 ghost use Rattle.std.specs.Prelude.{◌≡◌, ◌++◌, OnOk, [], get_or};
-ghost use Rattle.report.specs.ReportText.{group_text, group_line, cycle_line, cycle_lines, degree_lines, group_lines, shown_cycles, count_line, count_lines};
+ghost use Rattle.report.specs.ReportText.{group_text, group_line, cycle_line, cycle_lines, degree_lines, group_lines, shown_cycles, count_line, count_lines, shown_counts, pair_lines};
 
 use crate::{Cycles, PairReport, Shown};
 use faults::{Generator, Terms, put_chain};
 use itoa::Buffer;
 use std::alloc::AllocError as NoMemory;
+
+/// Adds the lines on a pair.
+pub(crate) fn put_pair(to: &mut Vec<u8>, shown: &Shown, pair: &PairReport) -> Result<(), NoMemory>
+    ensures { OnOk result (to.new.items ≡ to.old.items ++ pair_lines pair.now shown.now) }
+{
+    put_groups(to, shown, pair.dimensions.as_slice(), &pair.cycles)?;
+    put_shown_counts(to, shown, pair)
+}
 
 /// Adds the lines on the groups of these dimensions, each with the cycles of its basis where they
 /// are shown.
@@ -118,8 +126,18 @@ fn put_cycle_line<G: Generator>(
     to.extend_from_slice(b"\n")
 }
 
-/// Adds the lines on the counts of a pair.
-pub(crate) fn put_counts(to: &mut Vec<u8>, pair: &PairReport) -> Result<(), NoMemory>
+// Adds the lines on the counts of a pair, where they are shown.
+fn put_shown_counts(to: &mut Vec<u8>, shown: &Shown, pair: &PairReport) -> Result<(), NoMemory>
+    ensures { OnOk result (to.new.items ≡ to.old.items ++ shown_counts shown.now pair.now) }
+{
+    if !shown.stats {
+        return Ok(());
+    }
+    put_counts(to, pair)
+}
+
+// Adds the lines on the counts of a pair.
+fn put_counts(to: &mut Vec<u8>, pair: &PairReport) -> Result<(), NoMemory>
     ensures { OnOk result (to.new.items ≡ to.old.items ++ count_lines pair.now) }
 {
     put_count(to, b"cells", pair.cells as usize)?;
