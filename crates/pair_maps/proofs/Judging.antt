@@ -1,7 +1,8 @@
 -- Maps of pairs are refused in one way, or not at all.
-use Rattle.std.proofs.Common.{◌≡◌, ◌≢◌, ◌⊎◌, inl, inr, ⊎_elim, ℕ, refl, sym, ap, ◌∙◌, arith}
+use Rattle.std.proofs.Common.{◌≡◌, ◌≢◌, ◌⊎◌, inl, inr, ⊎_elim, ℕ, ◌<◌, ◌^◌, refl, sym, ap, ◌∙◌, arith, length}
 use Rattle.std.proofs.lemmas.Bool.{cases_lt}
 use Rattle.field_mod.specs.Modular.{IsField}
+use Rattle.cube_sets.specs.Closures.{cells_of}
 use Rattle.cell_complex.specs.CellCount.{cell_count}
 use Rattle.faults.specs.declared.fault.Fault.{Fault}
 use Rattle.faults.specs.declared.fault.Fault.TheVariants.{Limit}
@@ -13,7 +14,7 @@ use Rattle.pair_maps.specs.declared.inputs.PairMap.{PairMap}
 use Rattle.pair_maps.specs.Inputs.{domain_of, range_of}
 use Rattle.pair_maps.specs.Refusals.{most_cells, HasTooMany, HasFew, RefusesPairMap}
 use Rattle.pair_maps.proofs.Refusing.{refusal_or_none, refusals_alike, refusal_status}
-use Rattle.pair_maps.proofs.Cells.{cells_counted}
+use Rattle.pair_maps.proofs.Cells.{cells_counted, first_few}
 use Rattle.pair_maps.proofs.Refused.{never_both, allowed}
 
 limit_never_writes : statuses.Limit ≡ statuses.Write → ⊥
@@ -27,6 +28,16 @@ many_or_few m = ⊎_elim
     (λ more. inl (inl more))
     (λ few. ⊎_elim (λ more. inl (inr more)) (λ also. inr (record { domain = few; range = also })) (cases_lt most_cells (cell_count (range_of m))))
     (cases_lt most_cells (cell_count (domain_of m)))
+
+-- a map that nothing refuses has few cells
+pub few_of : (p : ℕ) (m : PairMap) → IsAllowed (RefusesPairMap p) m → HasFew m
+few_of p m none = ⊎_elim (λ more. absurd (none (Limit Cells most_cells) (inl (more, refl)))) (λ few. few) (many_or_few m)
+
+pub few_domain : (m : PairMap) → HasFew m → length (cells_of m.x.cells) < 2 ^ 32
+few_domain m few = omega (arith, first_few m.x.cells m.a.cells, few.domain)
+
+pub few_range : (m : PairMap) → HasFew m → length (cells_of m.y.cells) < 2 ^ 32
+few_range m few = omega (arith, first_few m.y.cells m.b.cells, few.range)
 
 module _ (p : ℕ) (field : IsField p) where
   pub found : (m : PairMap) → ((fault : Fault) × RefusesPairMap p m fault) ⊎ IsAllowed (RefusesPairMap p) m
