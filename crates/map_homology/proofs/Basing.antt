@@ -11,7 +11,7 @@ use Rattle.algebraic_reduction.specs.LogWords.{Reduced}
 use Rattle.cell_complex.specs.RelativeComplex.{is_relative, relative_complex}
 use Rattle.cell_complex.specs.Numbering.{IsRelativeComplex, cell_terms}
 use Rattle.cell_complex.proofs.Squares.{relative_complexes_are_complexes}
-use Rattle.homology_basis.specs.Bases.{CyclesOfLog, in_degree, IsBasisByCycles}
+use Rattle.homology_basis.specs.Bases.{BasisOfLog, CyclesOfLog, in_degree, IsBasisByCycles, IsBasisWithContraction}
 use Rattle.basis_reports.specs.Right.{IsRightInDegree, AreRightCounts}
 use Rattle.basis_reports.specs.ByDegree.{AreNumbersIn}
 use Rattle.basis_reports.proofs.Cycles.{right_over_cells}
@@ -20,7 +20,7 @@ use Rattle.basis_reports.proofs.RightBases.{right_basis, cell_names}
 use Rattle.induced_map.specs.Pairs.{nth_by_cell}
 use Rattle.report.specs.declared.pair.PairReport.{PairReport}
 use Rattle.map_homology.specs.declared.bases.PairCells.{PairCells}
-use Rattle.map_homology.specs.Bases.{IsPrepared, IsBasisOfPair, IsPartOf}
+use Rattle.map_homology.specs.Bases.{IsPrepared, IsBasisOfPair, IsPartOf, cycles_alone}
 use Rattle.map_homology.specs.Right.{nth_cycle, IsRightPart}
 use Rattle.map_homology.proofs.Terms.{cycles_by_cell}
 
@@ -30,6 +30,19 @@ basis_prepared p x a pair log b h e basis = record {
   sorted = h.sorted;
   basis = basis;
   counts = h.counts;
+}
+
+-- a basis with its contraction is one by its cycles alone
+pub without_cocycles : (p : ℕ) (b : BasisOfLog) → IsBasisWithContraction p b → IsBasisByCycles p (cycles_alone b)
+without_cocycles p b h = record {
+  complex = h.complex;
+  reduction = h.reduction;
+  nothing_left = h.nothing_left;
+  cycles = h.cycles;
+  few = h.few;
+  normal = h.normal;
+  first = h.first;
+  inclusions = h.inclusions;
 }
 
 module _ (p : ℕ) (x a : List (List Factor)) (pair : PairCells) (b : CyclesOfLog) (is_modulus : IsModulus p) (h : IsBasisOfPair p x a pair b) where
