@@ -1,2 +1,11 @@
 pub mod OneMap
 pub mod OtherNumbers
+pub mod Pushed
+pub mod Summing
+pub mod Values
+pub mod Cycles
+pub mod Fillings
+pub mod Vertices
+pub mod Keeping
+pub mod Settling
+pub mod Reading

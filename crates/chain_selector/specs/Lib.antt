@@ -1,3 +1,5 @@
 pub mod Selections
 pub mod Renumbered
+pub mod Multiples
+pub mod Right
 pub mod Laws
