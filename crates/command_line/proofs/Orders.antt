@@ -1,12 +1,12 @@
 -- Options that change places.
-use Rattle.std.proofs.Common.{◌≡◌, ℕ, suc, Bool, true, false, cond, ◌||◌, ◌&&◌, not, List, [], ◌∷◌, ◌++◌, Option, None, Some, refl, sym, ap, ◌∙◌}
+use Rattle.std.proofs.Common.{◌≡◌, ℕ, suc, Bool, true, false, cond, ◌||◌, ◌&&◌, not, List, [], ◌∷◌, ◌++◌, Option, None, Some, refl, sym, ap, ◌∙◌, true≢false}
 use Rattle.std.specs.Prelude.{nat_le, length}
 use Rattle.std.specs.Option.{option_map, option_and_then}
 use Rattle.command_line.specs.declared.choice.Choice.{Choice}
-use Rattle.command_line.specs.declared.choice.Choice.TheVariants.{Modulus, Cycles, Stats, SetAlone}
+use Rattle.command_line.specs.declared.choice.Choice.TheVariants.{Modulus, Cycles, Stats, Map, Matrix, SetAlone}
 use Rattle.command_line.specs.declared.choice.Setting.{Setting}
-use Rattle.command_line.specs.Forms.{Anything, Row, Spoken, form_named, stands_alone, same_choice, is_set, are_once, has_alone, agree, are_operands, words_read}
-use Rattle.command_line.specs.Words.{modulus_of, modulus_in, with_modulus, with_options, chosen_of, request_of, formed, command_with, command_of}
+use Rattle.command_line.specs.Forms.{Anything, Row, Spoken, form_named, stands_alone, same_choice, is_set, setting_of, are_once, has_alone, agree, of_map, form_with, are_operands, words_read}
+use Rattle.command_line.specs.Words.{modulus_by, modulus_in, with_modulus, options_in, with_options, chosen_of, request_by, request_of, formed, command_with, command_of}
 use Rattle.command_line.specs.Laws.{AreWhole}
 use Rattle.command_line.proofs.Wholes.{onto, behind_whole}
 
@@ -16,13 +16,13 @@ pub record SaySame (a b : List Setting) : Type 0 where
   pub once : are_once a ≡ are_once b
   pub alone : has_alone a ≡ has_alone b
   pub many : length a ≡ length b
-  pub modulus : are_once a ≡ true → modulus_in a ≡ modulus_in b
+  pub first : are_once a ≡ true → (choice : Choice) → setting_of a choice ≡ setting_of b choice
 
 pub same_refl : (a : List Setting) → SaySame a a
-same_refl a = record { set = λ choice. refl; once = refl; alone = refl; many = refl; modulus = λ e. refl }
+same_refl a = record { set = λ choice. refl; once = refl; alone = refl; many = refl; first = λ e choice. refl }
 
 pub same_trans : (a b c : List Setting) → SaySame a b → SaySame b c → SaySame a c
-same_trans a b c p q = record { set = λ choice. p.set choice ∙ q.set choice; once = p.once ∙ q.once; alone = p.alone ∙ q.alone; many = p.many ∙ q.many; modulus = λ e. p.modulus e ∙ q.modulus (sym p.once ∙ e) }
+same_trans a b c p q = record { set = λ choice. p.set choice ∙ q.set choice; once = p.once ∙ q.once; alone = p.alone ∙ q.alone; many = p.many ∙ q.many; first = λ e choice. p.first e choice ∙ q.first (sym p.once ∙ e) choice }
 
 and_right : (x y : Bool) → (x && y) ≡ true → y ≡ true
 and_right true y e = e
@@ -34,7 +34,7 @@ same_cons s a b p = record {
   once = ap (λ x. not x && are_once a) (p.set s.choice) ∙ ap (λ x. not (is_set s.choice b) && x) p.once;
   alone = ap (λ x. stands_alone s.choice || x) p.alone;
   many = ap suc p.many;
-  modulus = λ e. ap (modulus_of s.choice s.value) (p.modulus (and_right (not (is_set s.choice a)) (are_once a) e));
+  first = λ e choice. ap (cond (same_choice s.choice choice) (Some s)) (p.first (and_right (not (is_set s.choice a)) (are_once a) e) choice);
 }
 
 or_swap : (x y z : Bool) → (x || (y || z)) ≡ (y || (x || z))
@@ -52,37 +52,56 @@ once_swap false false false false o e = refl
 once_swap true false a b o e = cc
 once_swap false true a b o e = cc
 
-choice_swap : (c d : Choice) → same_choice c d ≡ same_choice d c
-choice_swap Modulus Modulus = refl
-choice_swap Modulus Cycles = refl
-choice_swap Modulus Stats = refl
-choice_swap Cycles Modulus = refl
-choice_swap Cycles Cycles = refl
-choice_swap Cycles Stats = refl
-choice_swap Stats Modulus = refl
-choice_swap Stats Cycles = refl
-choice_swap Stats Stats = refl
-choice_swap SetAlone Modulus = refl
-choice_swap SetAlone Cycles = refl
-choice_swap SetAlone Stats = refl
-choice_swap SetAlone SetAlone = refl
-choice_swap Modulus SetAlone = refl
-choice_swap Cycles SetAlone = refl
-choice_swap Stats SetAlone = refl
+pub same_self : (c : Choice) → same_choice c c ≡ true
+same_self Modulus = refl
+same_self Cycles = refl
+same_self Stats = refl
+same_self Map = refl
+same_self Matrix = refl
+same_self SetAlone = refl
 
-modulus_swap : (c d : Choice) (x y : Option (List ℕ)) (m : Option ℕ) (a : Bool) (rest : Bool) → (not (same_choice d c || a) && rest) ≡ true
-    → modulus_of c x (modulus_of d y m) ≡ modulus_of d y (modulus_of c x m)
-modulus_swap Modulus Modulus x y m a rest e = cc
-modulus_swap Modulus d x y m a rest e = refl
-modulus_swap c d x y m a rest e = refl
+pub same_is : (d c : Choice) → same_choice d c ≡ true → d ≡ c
+same_is Modulus Modulus e = refl
+same_is Cycles Cycles e = refl
+same_is Stats Stats e = refl
+same_is Map Map e = refl
+same_is Matrix Matrix e = refl
+same_is SetAlone SetAlone e = refl
+same_is d c e = absurd (true≢false (sym e))
+
+pub same_turned : (d c : Choice) → same_choice d c ≡ same_choice c d
+same_turned d c = by (same_choice d c) (same_choice c d) refl refl
+  where
+    by : (x y : Bool) → same_choice d c ≡ x → same_choice c d ≡ y → x ≡ y
+    by true true e f = refl
+    by false false e f = refl
+    by true false e f = let is : d ≡ c = same_is d c e in absurd (true≢false (sym (ap (λ x. same_choice x d) (sym is) ∙ same_self d) ∙ f))
+    by false true e f = let is : c ≡ d = same_is c d f in absurd (true≢false (sym (ap (λ x. same_choice d x) is ∙ same_self d) ∙ e))
+
+-- of two settings of two options at most one is of the third
+first_swap : (s t : Setting) (choice : Choice) (o : Option Setting) → same_choice t.choice s.choice ≡ false
+    → cond (same_choice s.choice choice) (Some s) (cond (same_choice t.choice choice) (Some t) o)
+    ≡ cond (same_choice t.choice choice) (Some t) (cond (same_choice s.choice choice) (Some s) o)
+first_swap s t choice o apart = by (same_choice s.choice choice) (same_choice t.choice choice) refl refl
+  where
+    by : (x y : Bool) → same_choice s.choice choice ≡ x → same_choice t.choice choice ≡ y
+        → cond x (Some s) (cond y (Some t) o) ≡ cond y (Some t) (cond x (Some s) o)
+    by true true e f = absurd (true≢false (sym f ∙ ap (same_choice t.choice) (sym (same_is s.choice choice e)) ∙ apart))
+    by true false e f = refl
+    by false true e f = refl
+    by false false e f = refl
+
+none_first : (a b c : Bool) → (not (a || b) && c) ≡ true → a ≡ false
+none_first true b c e = absurd (true≢false (sym e))
+none_first false b c e = refl
 
 pub same_swap : (s t : Setting) (v : List Setting) → SaySame (s ∷ t ∷ v) (t ∷ s ∷ v)
 same_swap s t v = record {
   set = λ choice. or_swap (same_choice s.choice choice) (same_choice t.choice choice) (is_set choice v);
-  once = once_swap (same_choice t.choice s.choice) (same_choice s.choice t.choice) (is_set s.choice v) (is_set t.choice v) (are_once v) (choice_swap t.choice s.choice);
+  once = once_swap (same_choice t.choice s.choice) (same_choice s.choice t.choice) (is_set s.choice v) (is_set t.choice v) (are_once v) (same_turned t.choice s.choice);
   alone = or_swap (stands_alone s.choice) (stands_alone t.choice) (has_alone v);
   many = refl;
-  modulus = λ e. modulus_swap s.choice t.choice s.value t.value (modulus_in v) (is_set s.choice v) (not (is_set t.choice v) && are_once v) e;
+  first = λ e choice. first_swap s t choice (setting_of v choice) (none_first (same_choice t.choice s.choice) (is_set s.choice v) (not (is_set t.choice v) && are_once v) e);
 }
 
 same_past : (s : Setting) (y v : List Setting) → SaySame (s ∷ (y ++ v)) (y ++ (s ∷ v))
@@ -101,12 +120,20 @@ module _ (form : Row) (o : List (List ℕ)) (a b : List Setting) (p : SaySame a 
   abbrev of : List Setting → Spoken
   of ss = record { operands = o; settings = ss }
 
+  options_same : are_once a ≡ true → options_in a ≡ options_in b
+  options_same e =
+      let with_same : with_modulus a ≡ with_modulus b = λ i. λ modulus. record {
+        modulus = modulus;
+        cycles = p.set Cycles i || p.set Matrix i;
+        stats = p.set Stats i;
+        map = option_and_then (λ (s : Setting). s.value) (p.first e Map i);
+        matrix = p.set Matrix i;
+        set_alone = p.set SetAlone i;
+      } in
+      ap (λ f. option_map f (modulus_in a)) with_same ∙ ap (λ s. option_map (with_modulus b) (modulus_by s)) (p.first e Modulus)
+
   chosen_same : are_once a ≡ true → chosen_of form (of a) ≡ chosen_of form (of b)
-  chosen_same e = ap (option_map (with_options form.tool o))
-      (ap (λ cycles. option_map (with_modulus cycles (is_set Stats a) (is_set SetAlone a)) (modulus_in a)) (p.set Cycles)
-      ∙ ap (λ stats. option_map (with_modulus (is_set Cycles b) stats (is_set SetAlone a)) (modulus_in a)) (p.set Stats)
-      ∙ ap (λ alone. option_map (with_modulus (is_set Cycles b) (is_set Stats b) alone) (modulus_in a)) (p.set SetAlone)
-      ∙ ap (option_map (with_modulus (is_set Cycles b) (is_set Stats b) (is_set SetAlone b))) (p.modulus e))
+  chosen_same e = ap (option_map (with_options form.tool o)) (options_same e)
 
   once_same : (x y : Bool) → are_once a ≡ x → x ≡ y → option_and_then (chosen_of form) (cond x (Some (of a)) None) ≡ option_and_then (chosen_of form) (cond y (Some (of b)) None)
   once_same true true e f = chosen_same e
@@ -119,12 +146,18 @@ module _ (form : Row) (o : List (List ℕ)) (a b : List Setting) (p : SaySame a 
   fits_same true = once_same (are_once a) (are_once b) refl p.once
 
   agree_same : agree a ≡ agree b
-  agree_same = ap (λ n. nat_le n 1 || not (has_alone a)) p.many ∙ ap (λ x. nat_le (length b) 1 || not x) p.alone
+  agree_same = λ i. (nat_le (p.many i) 1 || not (p.alone i)) && (p.set Map i || not (p.set Matrix i))
 
-  pub request_same : request_of form (of a) ≡ request_of form (of b)
-  request_same =
+  by_same : request_by form (of a) ≡ request_by form (of b)
+  by_same =
       let operands : Bool = nat_le form.fewest (length o) && nat_le (length o) form.most && are_operands form.tool o in
       ap (λ x. option_and_then (chosen_of form) (cond (operands && x && are_once a) (Some (of a)) None)) agree_same ∙ fits_same (operands && agree b)
+
+pub request_same : (form : Row) (o : List (List ℕ)) (a b : List Setting) → SaySame a b
+    → request_of form (record { operands = o; settings = a }) ≡ request_of form (record { operands = o; settings = b })
+request_same form o a b p =
+    ap (λ x. request_by (cond x (of_map form) form) (record { operands = o; settings = a })) (p.set Map)
+    ∙ by_same (form_with b form) o a b p
 
 module _ (form : Row) (so_far these those : Spoken) (none : these.operands ≡ []) where
   operands_same : (m : Spoken) → (onto so_far (onto these (onto those m))).operands ≡ (onto so_far (onto those (onto these m))).operands

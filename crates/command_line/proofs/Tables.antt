@@ -5,9 +5,7 @@ use Rattle.std.specs.Str.{bytes_eq}
 use Rattle.command_line.specs.Operands.{named}
 use Rattle.std.proofs.lemmas.List.{drop_more, take_all}
 use Rattle.command_line.specs.declared.choice.Setting.{Setting}
-use Rattle.command_line.specs.declared.choice.Choice.{Choice}
 use Rattle.command_line.specs.Forms.{is_set, are_once}
-use Rattle.command_line.specs.Words.{modulus_of, modulus_in}
 
 pub listed_at : (ns : List ℕ) (i : ℕ) → i < length ns → list_any (λ q. eqb q (get_or ns i 0)) ns ≡ true
 listed_at [] i l = absurd (omega arith)
@@ -30,6 +28,3 @@ once_at ss i s b l e t = ap are_once (drop_more ss i s l) ∙ ap (λ r. are_once
     tested : (b : Bool) → b ≡ is_set s.choice (drop (i + 1) ss) → are_once (s ∷ drop (i + 1) ss) ≡ cond b false (are_once (drop (i + 1) ss))
     tested true t = rw (← t) refl
     tested false t = rw (← t) refl
-
-pub modulus_at : (ss : List Setting) (i : ℕ) (s : Setting) (choice : Choice) → i < length ss → s ≡ get_or ss i s → s.choice ≡ choice → modulus_in (drop i ss) ≡ modulus_of choice s.value (modulus_in (drop (i + 1) ss))
-modulus_at ss i s choice l e is = ap modulus_in (drop_more ss i s l) ∙ ap (λ r. modulus_in (r ∷ drop (i + 1) ss)) (sym e) ∙ ap (λ c. modulus_of c s.value (modulus_in (drop (i + 1) ss))) is

@@ -5,7 +5,7 @@ use Rattle.std.specs.Option.{option_map, option_and_then}
 use Rattle.std.specs.List.{position_or_len}
 use Rattle.std.specs.Str.{bytes_eq}
 use Rattle.command_line.specs.declared.choice.Choice.{Choice}
-use Rattle.command_line.specs.declared.choice.Choice.TheVariants.{Modulus, Cycles, Stats, SetAlone}
+use Rattle.command_line.specs.declared.choice.Choice.TheVariants.{Modulus, Map}
 use Rattle.command_line.specs.Forms.{Anything, Nothing, Row, Spoken, form_named, named, option_name, option_named, takes_value, is_plain, is_empty, is_equals, also, alone, valued, word_first, words_read}
 use Rattle.command_line.specs.Words.{request_of, formed, command_with, command_of}
 use Rattle.command_line.specs.Laws.{AreWhole}
@@ -35,28 +35,35 @@ module _ (form : Row) (value : List ℕ) (after : List (List ℕ)) (plain : is_p
   either_way None takes = refl
   either_way (Some choice) takes = rw (takes choice refl, plain_not_empty value plain, plain) (sym (no_word_first _))
 
-  modulus_takes : (c : Choice) → option_named form (codes "--mod") ≡ Some c → takes_value c ≡ true
-  modulus_takes Modulus e = refl
-  modulus_takes Cycles e = let h = name_of_named form.options (codes "--mod") Cycles e in cc
-  modulus_takes Stats e = let h = name_of_named form.options (codes "--mod") Stats e in cc
-  modulus_takes SetAlone e = let h = name_of_named form.options (codes "--mod") SetAlone e in cc
+  -- an option that has the name of one with a value takes a value
+  same_takes : (choice c : Choice) → takes_value choice ≡ true → bytes_eq (option_name choice) (option_name c) ≡ true → takes_value c ≡ true
+  same_takes choice Modulus takes e = refl
+  same_takes choice Map takes e = refl
+  same_takes Modulus c takes e = cc
+  same_takes Map c takes e = cc
+  same_takes choice c takes e = cc
 
-  abbrev joined : List ℕ
-  joined = codes "--mod" ++ codes "=" ++ value
+  named_takes : (choice : Choice) → takes_value choice ≡ true → (c : Choice) → option_named form (option_name choice) ≡ Some c → takes_value c ≡ true
+  named_takes choice takes c e = same_takes choice c takes (name_of_named form.options (option_name choice) c e)
 
-  has_sign : nat_lt (position_or_len is_equals joined) (length joined) ≡ true
-  has_sign = lt-ltb 5 (length joined) (omega arith)
+  abbrev joined : Choice → List ℕ
+  joined choice = option_name choice ++ codes "=" ++ value
 
-  modulus_ways : words_read form Anything (joined ∷ after) ≡ words_read form Anything (codes "--mod" ∷ value ∷ after)
-  modulus_ways = ap (λ b. word_first (cond b (valued (option_named form (codes "--mod")) value) (alone (option_named form joined))) (λ next. words_read form next after)) has_sign
-      ∙ either_way (option_named form (codes "--mod")) modulus_takes
+  modulus_sign : nat_lt (position_or_len is_equals (joined Modulus)) (length (joined Modulus)) ≡ true
+  modulus_sign = lt-ltb 5 (length (joined Modulus)) (omega arith)
+
+  map_sign : nat_lt (position_or_len is_equals (joined Map)) (length (joined Map)) ≡ true
+  map_sign = lt-ltb 5 (length (joined Map)) (omega arith)
 
   choice_ways : (choice : Choice) → takes_value choice ≡ true
-      → words_read form Anything ((option_name choice ++ codes "=" ++ value) ∷ after) ≡ words_read form Anything (option_name choice ∷ value ∷ after)
-  choice_ways Modulus takes = modulus_ways
-  choice_ways Cycles takes = cc
-  choice_ways Stats takes = cc
-  choice_ways SetAlone takes = cc
+      → words_read form Anything (joined choice ∷ after) ≡ words_read form Anything (option_name choice ∷ value ∷ after)
+  choice_ways Modulus takes =
+      ap (λ b. word_first (cond b (valued (option_named form (codes "--mod")) value) (alone (option_named form (joined Modulus)))) (λ next. words_read form next after)) modulus_sign
+      ∙ either_way (option_named form (codes "--mod")) (named_takes Modulus takes)
+  choice_ways Map takes =
+      ap (λ b. word_first (cond b (valued (option_named form (codes "--map")) value) (alone (option_named form (joined Map)))) (λ next. words_read form next after)) map_sign
+      ∙ either_way (option_named form (codes "--map")) (named_takes Map takes)
+  choice_ways choice takes = cc
 
 pub two_ways : (name : List ℕ) (form : Row) → form_named name ≡ Some form
     → (before after : List (List ℕ)) (so_far : Spoken) → AreWhole form before so_far

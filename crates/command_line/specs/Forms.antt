@@ -1,6 +1,6 @@
 -- The forms of the words after a tool's name: a table with a row for each tool and each option, and
 -- what words say by it.
-use Rattle.std.specs.Prelude.{ℕ, List, [], ◌∷◌, ◌++◌, length, Option, None, Some, is_some, Bool, true, false, not, ◌&&◌, ◌||◌, ◌==◌, nat_le, nat_lt, if◌then◌else◌, codes, map, string_bytes}
+use Rattle.std.specs.Prelude.{ℕ, List, [], ◌∷◌, ◌++◌, length, Option, None, Some, is_some, Bool, true, false, not, ◌&&◌, ◌||◌, ◌==◌, nat_le, nat_lt, if◌then◌else◌, codes, map, find, string_bytes}
 use Rattle.std.specs.Option.{option_map}
 use Rattle.std.specs.List.{list_any, position_or_len, before_first, after_first}
 use Rattle.std.specs.Str.{bytes_eq}
@@ -8,7 +8,7 @@ use Rattle.std.specs.declared.string.String.{String}
 use Rattle.command_line.specs.declared.form.ToolName.{ToolName}
 use Rattle.command_line.specs.declared.form.ToolName.TheVariants as tools
 use Rattle.command_line.specs.declared.choice.Choice.{Choice}
-use Rattle.command_line.specs.declared.choice.Choice.TheVariants.{Modulus, Cycles, Stats, SetAlone}
+use Rattle.command_line.specs.declared.choice.Choice.TheVariants.{Modulus, Cycles, Stats, Map, Matrix, SetAlone}
 use Rattle.command_line.specs.declared.choice.Setting.{Setting}
 use Rattle.command_line.specs.Operands.{holes_named}
 pub use Rattle.command_line.specs.Operands.{named}
@@ -31,9 +31,9 @@ row tool name fewest most options =
 abbrev pub of_homology : List Choice
 of_homology = Modulus ∷ Cycles ∷ []
 
--- the options of the tool on pairs of sets
+-- the options of the tool on pairs of sets and on maps between such pairs
 abbrev pub of_pairs : List Choice
-of_pairs = Modulus ∷ Cycles ∷ Stats ∷ []
+of_pairs = Modulus ∷ Cycles ∷ Stats ∷ Map ∷ Matrix ∷ []
 
 -- the options of the tool on the values of maps
 abbrev pub of_maps : List Choice
@@ -60,12 +60,16 @@ abbrev pub option_name : Choice → List ℕ
 option_name Modulus = codes "--mod"
 option_name Cycles = codes "--cycles"
 option_name Stats = codes "--stats"
+option_name Map = codes "--map"
+option_name Matrix = codes "--matrix"
 option_name SetAlone = codes "--set"
 
 abbrev pub takes_value : Choice → Bool
 takes_value Modulus = true
 takes_value Cycles = false
 takes_value Stats = false
+takes_value Map = true
+takes_value Matrix = false
 takes_value SetAlone = false
 
 -- whether the option stands with no other
@@ -197,22 +201,38 @@ abbrev pub same_choice : Choice → Choice → Bool
 same_choice Modulus Modulus = true
 same_choice Cycles Cycles = true
 same_choice Stats Stats = true
+same_choice Map Map = true
+same_choice Matrix Matrix = true
 same_choice SetAlone SetAlone = true
 same_choice choice other = false
 
 abbrev pub is_set : Choice → List Setting → Bool
 is_set choice settings = list_any (λ s. same_choice s.choice choice) settings
 
+-- the first of the settings that is of this option
+abbrev pub setting_of : List Setting → Choice → Option Setting
+setting_of settings choice = find (λ s. same_choice s.choice choice) settings
+
 abbrev pub are_once : List Setting → Bool
 are_once [] = true
 are_once (s ∷ ss) = not (is_set s.choice ss) && are_once ss
 
--- no other option stands beside one that stands alone
+-- no other option stands beside one that stands alone, and matrices are those of a map
 abbrev pub has_alone : List Setting → Bool
 has_alone settings = list_any (λ s. stands_alone s.choice) settings
 
 abbrev pub agree : List Setting → Bool
-agree settings = nat_le (length settings) 1 || not (has_alone settings)
+agree settings =
+    (nat_le (length settings) 1 || not (has_alone settings))
+    && (is_set Map settings || not (is_set Matrix settings))
+
+-- the form that the options choose: with a map it is that of maps, whose operands are the domain,
+-- its subset, the range and its subset
+abbrev pub of_map : Row → Row
+of_map form = row tools.MapHomology form.name 4 4 form.options
+
+abbrev pub form_with : List Setting → Row → Row
+form_with settings form = if is_set Map settings then of_map form else form
 
 -- the operands are words that the tool takes: those of the generator name a number of holes, and
 -- those of other tools are any words

@@ -1,14 +1,13 @@
 -- What the words of the command line ask for.
-use Rattle.std.specs.Prelude.{◌≡◌, ◌⊎◌, ℕ, List, [], ◌∷◌, Option, None, Some, Result, Ok, Err, Bool, decimal}
+use Rattle.std.specs.Prelude.{◌≡◌, ◌⊎◌, ℕ, List, [], ◌∷◌, Option, None, Some, Result, Ok, Err, Bool, ◌||◌, decimal}
 use Rattle.std.specs.Option.{option_map, option_and_then}
 use Rattle.field_mod.specs.Moduli.{moduli}
 use Rattle.faults.specs.declared.fault.Fault.{Fault}
 use Rattle.faults.specs.declared.fault.Fault.TheVariants.{NoTool, NotAForm, OutOfMemory}
 use Rattle.command_line.specs.declared.form.ToolName.{ToolName}
-use Rattle.command_line.specs.declared.choice.Choice.{Choice}
-use Rattle.command_line.specs.declared.choice.Choice.TheVariants.{Modulus, Cycles, Stats, SetAlone}
+use Rattle.command_line.specs.declared.choice.Choice.TheVariants.{Modulus, Cycles, Stats, Map, Matrix, SetAlone}
 use Rattle.command_line.specs.declared.choice.Setting.{Setting}
-use Rattle.command_line.specs.Forms.{Anything, Row, Spoken, named, form_named, words_read, is_set, fitting}
+use Rattle.command_line.specs.Forms.{Anything, Row, Spoken, named, form_named, words_read, is_set, setting_of, form_with, fitting}
 
 -- ---- what the options say
 
@@ -17,33 +16,41 @@ abbrev pub modulus_named : Option (List ℕ) → Option ℕ
 modulus_named None = None
 modulus_named (Some word) = named decimal moduli word
 
-abbrev pub modulus_of : Choice → Option (List ℕ) → Option ℕ → Option ℕ
-modulus_of Modulus value others = modulus_named value
-modulus_of Cycles value others = others
-modulus_of Stats value others = others
-modulus_of SetAlone value others = others
+-- the modulus that is set so; without an option it is 2
+abbrev pub modulus_by : Option Setting → Option ℕ
+modulus_by None = Some 2
+modulus_by (Some s) = modulus_named s.value
 
--- the modulus that the options set; without one it is 2
 abbrev pub modulus_in : List Setting → Option ℕ
-modulus_in [] = Some 2
-modulus_in (s ∷ ss) = modulus_of s.choice s.value (modulus_in ss)
+modulus_in settings = modulus_by (setting_of settings Modulus)
 
--- the modulus, whether the cycles are printed, whether the counts are, and whether a set is, and
--- nothing of its homology
+-- the file of a map that the options name
+abbrev pub map_in : List Setting → Option (List ℕ)
+map_in settings = option_and_then (λ s. s.value) (setting_of settings Map)
+
+-- the modulus, whether the cycles are printed, whether the counts are, the map, whether its
+-- matrices are printed, and whether a set is, and nothing of its homology
 pub record Chosen : Type 0 where
   pub modulus : ℕ
   pub cycles : Bool
   pub stats : Bool
+  pub map : Option (List ℕ)
+  pub matrix : Bool
   pub set_alone : Bool
 
-abbrev pub with_modulus : Bool → Bool → Bool → ℕ → Chosen
-with_modulus cycles stats set_alone modulus =
-    record { modulus = modulus; cycles = cycles; stats = stats; set_alone = set_alone }
+-- where matrices are printed, so are the cycles
+abbrev pub with_modulus : List Setting → ℕ → Chosen
+with_modulus settings modulus = record {
+  modulus = modulus;
+  cycles = is_set Cycles settings || is_set Matrix settings;
+  stats = is_set Stats settings;
+  map = map_in settings;
+  matrix = is_set Matrix settings;
+  set_alone = is_set SetAlone settings;
+}
 
 abbrev pub options_in : List Setting → Option Chosen
-options_in settings =
-    option_map (with_modulus (is_set Cycles settings) (is_set Stats settings)
-    (is_set SetAlone settings)) (modulus_in settings)
+options_in settings = option_map (with_modulus settings) (modulus_in settings)
 
 -- ---- what words ask for
 
@@ -62,8 +69,12 @@ chosen_of form spoken =
     option_map (with_options form.tool spoken.operands) (options_in spoken.settings)
 
 -- the same of any operands and options: nothing where they are not of the form
+abbrev pub request_by : Row → Spoken → Option Request
+request_by form spoken = option_and_then (chosen_of form) (fitting form spoken)
+
+-- the same by the form that the options choose
 abbrev pub request_of : Row → Spoken → Option Request
-request_of form spoken = option_and_then (chosen_of form) (fitting form spoken)
+request_of form spoken = request_by (form_with spoken.settings form) spoken
 
 -- what was found, or that the words are not of the form
 abbrev pub formed : {A : Type 0} → Row → Option A → Result A Fault
@@ -95,6 +106,10 @@ second (x ∷ y ∷ ys) = Some y
 abbrev pub third : List (List ℕ) → Option (List ℕ)
 third [] = None
 third (x ∷ xs) = second xs
+
+abbrev pub fourth : List (List ℕ) → Option (List ℕ)
+fourth [] = None
+fourth (x ∷ xs) = third xs
 
 -- ---- want of memory
 

@@ -71,11 +71,12 @@ impl Arguments {
         self.settings.as_slice()
     }
 
-    /// The operands.
-    pub fn into_operands(self) -> Vec<Name>
-        ensures { result.items ≡ self.operands }
+    /// The operands and the options.
+    pub fn into_parts(self) -> (Vec<Name>, Vec<Setting>)
+        ensures operands { result.0.items ≡ self.operands }
+        ensures settings { result.1.items ≡ self.settings }
     {
-        self.operands
+        (self.operands, self.settings)
     }
 }
 
@@ -91,11 +92,12 @@ fn are_once(settings: &[Setting]) -> bool
     true
 }
 
-// Whether no other option stands beside one that stands alone.
+// Whether no other option stands beside one that stands alone, and a map beside its matrices.
 fn agree(settings: &[Setting]) -> bool
     ensures { result ≡ agree settings.now }
 {
-    settings.len() <= 1 || !has_alone(settings)
+    (settings.len() <= 1 || !has_alone(settings))
+        && (is_set(Choice::Map, settings) || !is_set(Choice::Matrix, settings))
 }
 
 fn has_alone(settings: &[Setting]) -> bool

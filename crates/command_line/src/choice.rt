@@ -13,6 +13,10 @@ pub enum Choice {
     Cycles,
     /// That the counts of cells and moved cubes are printed.
     Stats,
+    /// The file of a map.
+    Map,
+    /// That the matrices of a map are printed, and the cycles. It stands beside `Map` alone.
+    Matrix,
     /// That a set is printed, and nothing of its homology. It stands with no other option.
     SetAlone,
 }
@@ -33,6 +37,8 @@ impl Choice {
             Choice::Modulus => "--mod",
             Choice::Cycles => "--cycles",
             Choice::Stats => "--stats",
+            Choice::Map => "--map",
+            Choice::Matrix => "--matrix",
             Choice::SetAlone => "--set",
         }
     }
@@ -45,6 +51,8 @@ impl Choice {
             Choice::Modulus => "mod",
             Choice::Cycles => "cycles",
             Choice::Stats => "stats",
+            Choice::Map => "map",
+            Choice::Matrix => "matrix",
             Choice::SetAlone => "set",
         }
     }
@@ -57,6 +65,8 @@ impl Choice {
             Choice::Modulus => true,
             Choice::Cycles => false,
             Choice::Stats => false,
+            Choice::Map => true,
+            Choice::Matrix => false,
             Choice::SetAlone => false,
         }
     }
@@ -67,7 +77,8 @@ impl Choice {
     {
         match self {
             Choice::SetAlone => true,
-            Choice::Modulus | Choice::Cycles | Choice::Stats => false,
+            Choice::Modulus | Choice::Cycles | Choice::Stats | Choice::Map | Choice::Matrix =>
+                false,
         }
     }
 
@@ -79,6 +90,8 @@ impl Choice {
             (Choice::Modulus, Choice::Modulus) => true,
             (Choice::Cycles, Choice::Cycles) => true,
             (Choice::Stats, Choice::Stats) => true,
+            (Choice::Map, Choice::Map) => true,
+            (Choice::Matrix, Choice::Matrix) => true,
             (Choice::SetAlone, Choice::SetAlone) => true,
             _ => false,
         }

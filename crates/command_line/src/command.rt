@@ -1,7 +1,7 @@
 //! What words ask for.
 ghost use Rattle.std.specs.Prelude.{◌≡◌, ◌≤◌, IfSome};
 ghost use Rattle.std.specs.Option.{option_map};
-ghost use Rattle.command_line.specs.Words.{request_of, first, second, third};
+ghost use Rattle.command_line.specs.Words.{request_by, request_of, first, second, third, fourth};
 ghost use Rattle.command_line.specs.Operands.{holes_named};
 
 use crate::arguments::Arguments;
@@ -35,12 +35,19 @@ impl Command {
     pub fn of(form: &Form, arguments: Arguments) -> Option<Command>
         ensures { result ≡ request_of form.now arguments }
     {
+        Command::by(&form.with(arguments.settings()), arguments)
+    }
+
+    // The same by the form that the options have chosen.
+    fn by(form: &Form, arguments: Arguments) -> Option<Command>
+        ensures { result ≡ request_by form.now arguments }
+    {
         if !arguments.fits(form) {
             return None;
         }
         let tool = form.tool();
-        let options = Options::of(arguments.settings())?;
-        let operands = arguments.into_operands();
+        let (operands, settings) = arguments.into_parts();
+        let options = Options::of(settings)?;
         Some(Command {
             tool,
             operands,
@@ -74,6 +81,13 @@ impl Command {
         ensures { option_map (λ name. name.now) result ≡ third self.now.operands }
     {
         self.operands.get(2)
+    }
+
+    /// The fourth operand, where there is one.
+    pub fn fourth(&self) -> Option<&Name>
+        ensures { option_map (λ name. name.now) result ≡ fourth self.now.operands }
+    {
+        self.operands.get(3)
     }
 
     /// The number of holes that the operands name, from 1 to 527, where they name one.

@@ -1,14 +1,17 @@
 //! Tools by their names, and the forms of the words after them.
 ghost use Rattle.std.specs.Prelude.{◌≡◌, ◌≤◌};
-ghost use Rattle.command_line.specs.Forms.{form_named, named, option_name, option_named, row};
+ghost use Rattle.command_line.specs.Forms.{form_named, form_with, named, option_name, option_named, row};
 
-use crate::choice::Choice;
+use crate::arguments::is_set;
+use crate::choice::{Choice, Setting};
 use std::marker::Model;
 
-/// A tool of the program, by the name that words give it.
+/// A tool of the program, by the name that words give it; the homology of maps is asked for by the
+/// name of that of pairs with an option.
 #[derive(Clone, Copy, Debug, PartialEq, Eq)]
 pub enum ToolName {
     Homcubes,
+    MapHomology,
     Cubunion,
     Cubinter,
     Cubnbhd,
@@ -43,8 +46,14 @@ impl Model for Form {
 // The options of the tools that compute homology.
 const OF_HOMOLOGY: [Choice; 2] = [Choice::Modulus, Choice::Cycles];
 
-// The options of the tool on pairs of sets.
-const OF_PAIRS: [Choice; 3] = [Choice::Modulus, Choice::Cycles, Choice::Stats];
+// The options of the tool on pairs of sets and on maps between such pairs.
+const OF_PAIRS: [Choice; 5] = [
+    Choice::Modulus,
+    Choice::Cycles,
+    Choice::Stats,
+    Choice::Map,
+    Choice::Matrix,
+];
 
 // The options of the tool on the values of maps.
 const OF_MAPS: [Choice; 1] = [Choice::Modulus];
@@ -68,6 +77,16 @@ impl Form {
             "chkmvmap" => Some(Form::of(ToolName::Chkmvmap, "chkmvmap", 3, 3, &OF_MAPS)),
             _ => None,
         }
+    }
+
+    /// The form that the options choose: with a map it is that of maps.
+    pub fn with(&self, settings: &[Setting]) -> Form
+        ensures { result ≡ form_with settings.now self.now }
+    {
+        if is_set(Choice::Map, settings) {
+            return Form::of(ToolName::MapHomology, self.name, 4, 4, self.options);
+        }
+        Form::of(self.tool, self.name, self.fewest, self.most, self.options)
     }
 
     // A row of the table.

@@ -1,11 +1,14 @@
 //! What the options say.
 ghost use Rattle.std.specs.Prelude.{◌≡◌, IfSome};
+ghost use Rattle.std.specs.Option.{option_map};
 ghost use Rattle.field_mod.specs.Moduli.{IsModulus};
-ghost use Rattle.command_line.specs.Words.{modulus_in, options_in};
+ghost use Rattle.command_line.specs.Forms.{setting_of};
+ghost use Rattle.command_line.specs.Words.{map_in, modulus_in, modulus_named, options_in};
 
 use crate::arguments::is_set;
 use crate::choice::{Choice, Setting};
 use crate::modulus::modulus_named;
+use faults::Name;
 use std::marker::Model;
 
 /// What the options say, with what they leave open by its usual value.
@@ -14,6 +17,8 @@ pub struct Options {
     modulus: u16,
     cycles: bool,
     stats: bool,
+    map: Option<Name>,
+    matrix: bool,
     set_alone: bool,
 }
 
@@ -27,6 +32,8 @@ impl Model for Options {
       modulus = o.modulus;
       cycles = o.cycles;
       stats = o.stats;
+      map = o.map;
+      matrix = o.matrix;
       set_alone = o.set_alone;
     } };
 
@@ -35,17 +42,21 @@ impl Model for Options {
 
 impl Options {
     /// What the options say as they stand among the words.
-    pub fn of(settings: &[Setting]) -> Option<Options>
-        ensures { result ≡ options_in settings.now }
+    pub fn of(settings: Vec<Setting>) -> Option<Options>
+        ensures { result ≡ options_in settings.items }
     {
-        let modulus = modulus_in(settings)?;
-        let cycles = is_set(Choice::Cycles, settings);
-        let stats = is_set(Choice::Stats, settings);
-        let set_alone = is_set(Choice::SetAlone, settings);
+        let modulus = modulus_in(&settings)?;
+        let matrix = is_set(Choice::Matrix, &settings);
+        let cycles = is_set(Choice::Cycles, &settings) || matrix;
+        let stats = is_set(Choice::Stats, &settings);
+        let set_alone = is_set(Choice::SetAlone, &settings);
+        let map = map_in(settings);
         Some(Options {
             modulus,
             cycles,
             stats,
+            map,
+            matrix,
             set_alone,
         })
     }
@@ -58,7 +69,7 @@ impl Options {
         self.modulus
     }
 
-    /// Whether the cycles are printed.
+    /// Whether the cycles are printed, as they are with matrices.
     pub fn cycles(&self) -> bool
         ensures { result ≡ self.now.cycles }
     {
@@ -70,6 +81,20 @@ impl Options {
         ensures { result ≡ self.now.stats }
     {
         self.stats
+    }
+
+    /// The file of a map, where one is named.
+    pub fn map(&self) -> Option<&Name>
+        ensures { option_map (λ name. name.now) result ≡ self.now.map }
+    {
+        self.map.as_ref()
+    }
+
+    /// Whether the matrices of a map are printed.
+    pub fn matrix(&self) -> bool
+        ensures { result ≡ self.now.matrix }
+    {
+        self.matrix
     }
 
     /// Whether a set is printed, and nothing of its homology.
@@ -85,16 +110,43 @@ fn modulus_in(settings: &[Setting]) -> Option<u16>
     ensures value { result ≡ modulus_in settings.now }
     ensures table { IfSome result IsModulus }
 {
+    match setting_of(settings, Choice::Modulus) {
+        Some(setting) => modulus_of(setting),
+        None => Some(2),
+    }
+}
+
+// The modulus that an option names.
+fn modulus_of(setting: &Setting) -> Option<u16>
+    ensures value { result ≡ modulus_named setting.now.value }
+    ensures table { IfSome result IsModulus }
+{
+    match &setting.value {
+        Some(word) => modulus_named(word.as_str()),
+        None => None,
+    }
+}
+
+// The first of the settings that is of this option.
+fn setting_of(settings: &[Setting], choice: Choice) -> Option<&Setting>
+    ensures { option_map (λ setting. setting.now) result ≡ setting_of settings.now choice }
+{
     for setting in settings {
-        match setting.choice {
-            Choice::Modulus => {
-                return match &setting.value {
-                    Some(word) => modulus_named(word.as_str()),
-                    None => None,
-                };
-            }
-            Choice::Cycles | Choice::Stats | Choice::SetAlone => {}
+        if setting.choice.is(choice) {
+            return Some(setting);
         }
     }
-    Some(2)
+    None
+}
+
+// The file of a map that the options name.
+fn map_in(settings: Vec<Setting>) -> Option<Name>
+    ensures { result ≡ map_in settings.items }
+{
+    for setting in settings {
+        if setting.choice.is(Choice::Map) {
+            return setting.value;
+        }
+    }
+    None
 }
