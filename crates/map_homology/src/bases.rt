@@ -30,7 +30,7 @@ fn prepared<const P: u16>(
     x: &CubeSet,
     a: &CubeSet,
 ) -> Result<(PairCells, Log<P>), Fault>
-    requires { cell_count (x.now.cells ++ a.now.cells) ≤ CELLS }
+    requires few { cell_count (x.now.cells ++ a.now.cells) ≤ CELLS }
     ensures prepared { IfOk result (λ made.
         IsPrepared P x.now.cells a.now.cells made.0 made.1) }
     ensures fault { IfErr result (λ fault. fault ≡ Fault.OutOfMemory) }
@@ -58,7 +58,7 @@ pub(crate) fn domain_basis<const P: u16>(
     x: &CubeSet,
     a: &CubeSet,
 ) -> Result<(PairCells, CycleBasis<P>), Fault>
-    requires { cell_count (x.now.cells ++ a.now.cells) ≤ CELLS }
+    requires few { cell_count (x.now.cells ++ a.now.cells) ≤ CELLS }
     ensures basis { IfOk result (λ made.
         IsBasisOfPair P x.now.cells a.now.cells made.0 made.1) }
     ensures fault { IfErr result (λ fault. fault ≡ Fault.OutOfMemory) }
@@ -75,7 +75,7 @@ pub(crate) fn range_basis<const P: u16>(
     y: &CubeSet,
     b: &CubeSet,
 ) -> Result<(PairCells, Basis<P>), Fault>
-    requires { cell_count (y.now.cells ++ b.now.cells) ≤ CELLS }
+    requires few { cell_count (y.now.cells ++ b.now.cells) ≤ CELLS }
     ensures basis { IfOk result (λ made.
         IsBasisOfPair P y.now.cells b.now.cells made.0 (cycles_alone made.1)) }
     ensures fault { IfErr result (λ fault. fault ≡ Fault.OutOfMemory) }

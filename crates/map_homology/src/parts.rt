@@ -17,7 +17,7 @@ pub(crate) fn part_of<B: HasCycles>(
     basis: &B,
     most: u8,
 ) -> Result<PairReport, NoMemory>
-    requires { (k : ℕ) → k ≤ most
+    requires names { (k : ℕ) → k ≤ most
         → CanNameAll (AreNumbersIn 0 (length pair.cells)) (in_degree (B.cycles basis.now) k) }
     ensures { IfOk result (IsPartOf pair (B.cycles basis.now) most) }
 {

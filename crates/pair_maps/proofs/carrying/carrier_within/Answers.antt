@@ -8,7 +8,7 @@ check_values-requires g c =
     let m = c.args.input.now in
     let d = count_together m.x.cells m.a.cells in
     let r = count_together m.y.cells m.b.cells in
-    ((omega arith), ((omega arith), (c.requires.fits.alike, (omega (arith, d, c.requires.few.domain)), (omega (arith, r, c.requires.few.range)))))
+    ((omega arith), ((omega arith), ((omega arith), (c.requires.fits.alike, ((omega (arith, d, c.requires.few.domain)), (omega (arith, r, c.requires.few.range)))))))
 
 pub returns-in-Ok-clause-allowed : goal.returns-in-Ok-clause-allowed
 returns-in-Ok-clause-allowed g c =
