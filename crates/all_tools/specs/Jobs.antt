@@ -1,8 +1,8 @@
 -- What each tool is asked to do by words, as a job that is judged in one way.
-use Rattle.std.specs.Prelude.{ℕ, List, [], unwrap_or}
+use Rattle.std.specs.Prelude.{ℕ, List, [], None, Some, unwrap_or}
 use Rattle.command_line.specs.declared.form.ToolName.{ToolName}
 use Rattle.command_line.specs.declared.form.ToolName.TheVariants as tools
-use Rattle.command_line.specs.Words.{Request, first, second, third}
+use Rattle.command_line.specs.Words.{Request, first, second, third, fourth}
 use Rattle.loading.specs.Jobs.{Job, HasOneJudgement}
 use Rattle.set_tools.specs.declared.cubunion.Combination.{Combination}
 use Rattle.set_tools.specs.declared.cubunion.Combination.TheVariants.{Union, Intersection}
@@ -17,6 +17,10 @@ use Rattle.command_line.specs.Operands.{holes_named}
 use Rattle.gen_tool.specs.declared.holes.HolesJob.{HolesJob}
 use Rattle.gen_tool.specs.Jobs as gens
 use Rattle.gen_tool.proofs.Judging as of_gens
+use Rattle.pair_maps.specs.declared.inputs.MapFiles.{MapFiles}
+use Rattle.map_homology.specs.declared.map_job.MapJob.{MapJob}
+use Rattle.map_homology.specs.Jobs as map_homologies
+use Rattle.map_homology.proofs.Judging as of_map_homologies
 use Rattle.map_tools.specs.declared.values_job.ValuesJob.{ValuesJob}
 use Rattle.map_tools.specs.Jobs as maps
 use Rattle.map_tools.proofs.Judging as of_maps
@@ -48,13 +52,36 @@ abbrev pub chain_of : Request → ChainJob
 chain_of r =
     record { file = first r.operands; modulus = r.options.modulus; cycles = r.options.cycles }
 
--- a map and two sets, which the form asks for
+-- a map and two sets, which the form asks for; their subsets are empty
 abbrev pub values_of : Request → ValuesJob
 values_of r = record {
-  map = first r.operands;
-  x = unwrap_or (second r.operands) [];
-  y = unwrap_or (third r.operands) [];
+  files = record {
+    map = first r.operands;
+    x = unwrap_or (second r.operands) [];
+    a = None;
+    y = unwrap_or (third r.operands) [];
+    b = None;
+  };
   modulus = r.options.modulus;
+}
+
+-- a map and two pairs, which the form asks for
+abbrev pub map_files_of : Request → MapFiles
+map_files_of r = record {
+  map = unwrap_or r.options.map [];
+  x = first r.operands;
+  a = Some (unwrap_or (second r.operands) []);
+  y = unwrap_or (third r.operands) [];
+  b = Some (unwrap_or (fourth r.operands) []);
+}
+
+abbrev pub map_of : Request → MapJob
+map_of r = record {
+  files = map_files_of r;
+  modulus = r.options.modulus;
+  cycles = r.options.cycles;
+  matrix = r.options.matrix;
+  stats = r.options.stats;
 }
 
 -- squares with so many holes, which the form asks for
@@ -84,8 +111,12 @@ judged_combination job = judged (sets.combination_job job) (of_sets.combination_
 abbrev judged_chain : ChainJob → Judged
 judged_chain job = judged (chains.chain_job job) (of_chains.chain_once job)
 
+abbrev judged_map : MapJob → Judged
+judged_map job = judged (map_homologies.map_job job) (of_map_homologies.map_once job)
+
 abbrev pub judged_by : ToolName → Request → Judged
 judged_by tools.Homcubes r = judged_pair (pair_of r)
+judged_by tools.MapHomology r = judged_map (map_of r)
 judged_by tools.Cubunion r = judged_combination (two_files Union r)
 judged_by tools.Cubinter r = judged_combination (two_files Intersection r)
 judged_by tools.Cubnbhd r = judged (sets.neighbours_job (x_of r)) (of_sets.neighbours_once (x_of r))

@@ -1,18 +1,20 @@
 //! From a command to its answer, for whichever tool it names.
 ghost use Rattle.loading.specs.Jobs.{Answers};
-ghost use Rattle.all_tools.specs.Jobs.{job_by, pair_of, two_files, chain_of, holes_of, values_of};
+ghost use Rattle.all_tools.specs.Jobs.{job_by, pair_of, two_files, chain_of, holes_of, values_of, map_of};
 ghost use Rattle.pair_tool.specs.Jobs.{pair_job};
 ghost use Rattle.set_tools.specs.Jobs.{combination_job};
 ghost use Rattle.chain_tool.specs.Jobs.{chain_job};
 ghost use Rattle.gen_tool.specs.Jobs.{holes_job};
+ghost use Rattle.map_homology.specs.Jobs.{map_job};
 ghost use Rattle.map_tools.specs.Jobs.{values_job};
 
-use crate::jobs::{chain_job, combination_job, holes_job, pair_job, values_job};
+use crate::jobs::{chain_job, combination_job, holes_job, map_job, pair_job, values_job};
 use chain_tool::homology_of_file;
 use command_line::{Command, ToolName};
 use faults::Fault;
 use gen_tool::generate;
 use loading::Answer;
+use map_homology::homology_of_map;
 use map_tools::check_map;
 use outside::Files;
 use pair_tool::homology_of_pair;
@@ -30,6 +32,7 @@ pub fn answer_by<F: Files>(
 {
     match tool {
         ToolName::Homcubes => pair_answer(alloc, files, command),
+        ToolName::MapHomology => map_answer(alloc, files, command),
         ToolName::Cubunion => combination_answer(alloc, files, command, Combination::Union),
         ToolName::Cubinter => combination_answer(alloc, files, command, Combination::Intersection),
         ToolName::Cubnbhd => set_tools::neighbours(alloc, files, command.first()),
@@ -88,4 +91,13 @@ fn values_answer<F: Files>(alloc: Global, files: &mut F, command: &Command) -> R
 {
     let job = values_job(alloc, command)?;
     check_map(alloc, files, &job)
+}
+
+// The map that a map between two pairs induces in homology.
+fn map_answer<F: Files>(alloc: Global, files: &mut F, command: &Command) -> Result<Answer, Fault>
+    ensures { Answers (map_job (map_of command.now))
+        (F.seen files.old) (F.seen files.new) result }
+{
+    let job = map_job(alloc, command)?;
+    homology_of_map(alloc, files, &job)
 }

@@ -1,14 +1,16 @@
 //! Commands as the jobs of tools.
-ghost use Rattle.std.specs.Prelude.{◌≡◌, ◌≤◌, Ok};
+ghost use Rattle.std.specs.Prelude.{◌≡◌, ◌≤◌, [], Ok, option_copied, unwrap_or};
 ghost use Rattle.loading.specs.Steps.{IsDue};
-ghost use Rattle.all_tools.specs.Jobs.{pair_of, two_files, chain_of, holes_of, values_of};
+ghost use Rattle.all_tools.specs.Jobs.{pair_of, two_files, chain_of, holes_of, values_of, map_of, map_files_of};
 
 use basis_reports::Modulus;
 use chain_tool::ChainJob;
 use command_line::Command;
 use faults::{Fault, Name};
 use gen_tool::HolesJob;
+use map_homology::MapJob;
 use map_tools::ValuesJob;
+use pair_maps::MapFiles;
 use pair_tool::PairJob;
 use set_tools::{Combination, CombinationJob};
 use std::alloc::Global;
@@ -76,18 +78,61 @@ pub fn values_job(alloc: Global, command: &Command) -> Result<ValuesJob, Fault>
     ensures { IsDue (Ok (values_of command.now)) result }
 {
     let map = command.first().copy(alloc)?;
-    let x = match command.second() {
-        Some(x) => x.copy(alloc)?,
-        None => Name::of(alloc, "")?,
-    };
-    let y = match command.third() {
-        Some(y) => y.copy(alloc)?,
-        None => Name::of(alloc, "")?,
-    };
-    Ok(ValuesJob {
+    let x = copy_or_empty(alloc, command.second())?;
+    let y = copy_or_empty(alloc, command.third())?;
+    let files = MapFiles {
         map,
         x,
+        a: None,
         y,
+        b: None,
+    };
+    Ok(ValuesJob {
+        files,
         modulus: Modulus::of_table(command.options().modulus()),
     })
+}
+
+/// A map between two pairs that is wanted in homology.
+pub fn map_job(alloc: Global, command: &Command) -> Result<MapJob, Fault>
+    ensures { IsDue (Ok (map_of command.now)) result }
+{
+    let options = command.options();
+    let files = map_files(alloc, command)?;
+    Ok(MapJob {
+        files,
+        modulus: Modulus::of_table(options.modulus()),
+        cycles: options.cycles(),
+        matrix: options.matrix(),
+        stats: options.stats(),
+    })
+}
+
+// The files of a map between two pairs.
+fn map_files(alloc: Global, command: &Command) -> Result<MapFiles, Fault>
+    ensures { IsDue (Ok (map_files_of command.now)) result }
+{
+    let map = copy_or_empty(alloc, command.options().map())?;
+    let x = command.first().copy(alloc)?;
+    let a = copy_or_empty(alloc, command.second())?;
+    let y = copy_or_empty(alloc, command.third())?;
+    let b = copy_or_empty(alloc, command.fourth())?;
+    Ok(MapFiles {
+        map,
+        x,
+        a: Some(a),
+        y,
+        b: Some(b),
+    })
+}
+
+// A name once more, or the empty one where there is none.
+fn copy_or_empty(alloc: Global, name: Option<&Name>) -> Result<Name, Fault>
+    ensures { IsDue (Ok (unwrap_or (option_copied name.entry) [])) result }
+{
+    let copy = match name {
+        Some(name) => name.copy(alloc)?,
+        None => Name::of(alloc, "")?,
+    };
+    Ok(copy)
 }

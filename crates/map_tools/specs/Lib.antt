@@ -1,4 +1,2 @@
 -- What the tool on the values of maps is asked to do.
-pub mod MapRefusals
-pub mod Telling
 pub mod Jobs

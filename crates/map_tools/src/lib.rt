@@ -2,12 +2,9 @@
 #![tactic(auto)]
 
 mod chkmvmap;
-mod inputs;
 mod laws;
-mod told;
 mod values_job;
 
 pub use chkmvmap::check_map;
-pub use inputs::{MapAndSets, load_map_and_sets};
 pub use laws::values_jobs_have_one_judgement;
 pub use values_job::ValuesJob;

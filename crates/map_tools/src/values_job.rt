@@ -1,16 +1,12 @@
 //! What `chkmvmap` is asked to do.
 use basis_reports::Modulus;
-use faults::Name;
+use pair_maps::MapFiles;
 
 /// What the tool is asked to do.
 #[derive(Drop)]
 pub struct ValuesJob {
-    /// The file of the map.
-    pub map: Name,
-    /// The file of the domain.
-    pub x: Name,
-    /// The file of the range.
-    pub y: Name,
+    /// The files of the map and of its sets; of the command these have no subsets.
+    pub files: MapFiles,
     /// The modulus of the coefficients.
     pub modulus: Modulus,
 }

@@ -16,7 +16,7 @@ cycles_by_degree-requires g c =
     let basis = c.in_ok-basis.basis in
     let same : basis.log.complex ≡ file.complex = ap (λ (log : Reduced). log.complex) c.in_ok-basis.ensures.log ∙ c.in_ok-log.ensures.complex ∙ c.in_ok-start.ensures.0 ∙ c.into_complex.ensures in
     let below : AreCountsBelow file.complex.degrees file.top c.of-numbers.result = subst (λ (counts : List ℕ). AreCountsBelow file.complex.degrees file.top counts) (sym c.of-numbers.ensures) c.in_ok-counts_below.ensures in
-    ((omega arith), λ k l j m. file_names g.row.P file basis c.of-numbers.result c.in_ok-basis.ensures.basis c.top-top.ensures.numbered same below k j (omega (arith, l, c.top-top.ensures.value)) m)
+    λ k l j m. file_names g.row.P file basis c.of-numbers.result c.in_ok-basis.ensures.basis c.top-top.ensures.numbered same below k j (omega (arith, l, c.top-top.ensures.value)) m
 
 pub returns-then-shown : goal.returns-then-shown
 returns-then-shown g c =

@@ -1,4 +1,4 @@
-use Rattle.std.proofs.Common.{arith, sym, subst, ◌∙◌, length, ap}
+use Rattle.std.proofs.Common.{sym, subst, ◌∙◌, length, ap}
 use Rattle.algebraic_reduction.specs.LogWords.{Reduced}
 use Rattle.cell_complex.specs.Numbering.{IsRelativeComplex}
 use Rattle.basis_reports.specs.Right.{IsRightPair}
@@ -9,11 +9,9 @@ use Rattle.basis_reports.proofs.pairs.pair_homology.Goals as goal
 
 pub cycles_by_degree-requires : goal.cycles_by_degree-requires
 cycles_by_degree-requires g c =
-    let basis = c.in_ok-basis.basis in (
-      (omega arith),
-      λ k l j m. cell_names g.row.P (length c.in_ok-cells.field-0.cells) basis c.in_ok-basis.ensures.basis
-          (ap (λ (log : Reduced). length log.complex.boundaries) c.in_ok-basis.ensures.log ∙ c.in_ok-cells.ensures.complex.complex.count) k j m,
-    )
+    let basis = c.in_ok-basis.basis in
+    λ k l j m. cell_names g.row.P (length c.in_ok-cells.field-0.cells) basis c.in_ok-basis.ensures.basis
+    (ap (λ (log : Reduced). length log.complex.boundaries) c.in_ok-basis.ensures.log ∙ c.in_ok-cells.ensures.complex.complex.count) k j m
 
 pub returns-then-shown-clause-right : goal.returns-then-shown-clause-right
 returns-then-shown-clause-right g c =

@@ -7,4 +7,4 @@ pub returns-in_err-input : goal.returns-in_err-input
 unfolding values_job
 returns-in_err-input g c =
     let p = err_from_is_err_and c.from_residual.result c.from_residual.ensures.1 in
-    rw (p.1, p.2) (load_refused (values_job c.args.job.now) (g.F.Files.seen c.args.files.now) (g.F.Files.seen c.load_map_and_sets.new.files) c.in_err-input.field-0.0 c.in_err-input.ensures.loads)
+    rw (p.1, p.2) (load_refused (values_job c.args.job.now) (g.F.Files.seen c.args.files.now) (g.F.Files.seen c.load_pair_map.new.files) c.in_err-input.field-0.0 c.in_err-input.ensures.loads)

@@ -1,0 +1,9 @@
+pub mod Terms
+pub mod Filling
+pub mod Excised
+pub mod Basing
+pub mod Inducing
+pub mod Complexes
+pub mod Large
+pub mod Judging
+pub mod Computing

@@ -1,0 +1,58 @@
+-- Bases of the homology of the two pairs of a map, by the numbers of their relative cells.
+use Rattle.std.specs.Prelude.{◌≡◌, ℕ, ◌+◌, List, length}
+use Rattle.elem_cubes.specs.Cells.{Factor}
+use Rattle.algebraic_reduction.specs.Laws.{NothingLeft}
+use Rattle.algebraic_reduction.specs.LogWords.{Reduced}
+use Rattle.cell_complex.specs.Sorted.{IsSortedCells}
+use Rattle.cell_complex.specs.Numbering.{IsRelativeComplex, cell_terms}
+use Rattle.homology_basis.specs.Bases.{BasisOfLog, CyclesOfLog, IsBasisByCycles}
+use Rattle.basis_reports.specs.Right.{CyclesOver, AreRightCounts}
+use Rattle.basis_reports.specs.ByDegree.{AreByDegree}
+use Rattle.map_checks.specs.Carriers.{Carrying}
+use Rattle.pair_maps.specs.declared.inputs.PairMap.{PairMap}
+use Rattle.pair_maps.specs.Refusals.{IsCarrierOf}
+use Rattle.report.specs.declared.pair.PairReport.{PairReport}
+use Rattle.map_homology.specs.declared.bases.PairCells.{PairCells}
+
+-- the cells of the pair of x and a, with its counts, and a log of its complex that leaves no
+-- boundary
+pub record IsPrepared (p : ℕ) (x a : List (List Factor)) (pair : PairCells) (log : Reduced)
+    : Type 0 where
+  pub relative : IsRelativeComplex p x a pair.cells log.complex
+  pub sorted : IsSortedCells pair.cells
+  pub nothing : NothingLeft p log.complex log.steps
+  pub counts : AreRightCounts p x a (length pair.cells) pair.grown pair.left
+
+-- .. and a basis of its homology
+pub record IsBasisOfPair (p : ℕ) (x a : List (List Factor)) (pair : PairCells) (b : CyclesOfLog)
+    : Type 0 where
+  pub relative : IsRelativeComplex p x a pair.cells b.log.complex
+  pub sorted : IsSortedCells pair.cells
+  pub basis : IsBasisByCycles p b
+  pub counts : AreRightCounts p x a (length pair.cells) pair.grown pair.left
+
+-- a basis without its cocycles
+abbrev pub cycles_alone : BasisOfLog → CyclesOfLog
+cycles_alone b = record { log = b.log; cycles = b.cycles }
+
+-- c carries the map m, and A and B are bases of its pairs
+pub record AreBasesOf (p : ℕ) (m : PairMap) (c : Carrying) (domain : PairCells) (A : CyclesOfLog)
+    (range : PairCells) (B : BasisOfLog) : Type 0 where
+  pub carrier : IsCarrierOf p m c
+  pub of_domain : IsBasisOfPair p m.x.cells m.a.cells domain A
+  pub of_range : IsBasisOfPair p m.y.cells m.b.cells range (cycles_alone B)
+
+-- .. for some map
+pub record AreBasesOfMap (p : ℕ) (c : Carrying) (domain : PairCells) (A : CyclesOfLog)
+    (range : PairCells) (B : BasisOfLog) : Type 0 where
+  pub map : PairMap
+  pub bases : AreBasesOf p map c domain A range B
+
+-- the report has the dimensions and the cycles of the basis, with the cells in place of their
+-- numbers, by degree from 0 to n, and the counts of the pair
+pub record IsPartOf (pair : PairCells) (cycles : CyclesOver ℕ) (n : ℕ) (part : PairReport)
+    : Type 0 where
+  pub by_degree : AreByDegree (λ k. cell_terms pair.cells) cycles (n + 1) part.dimensions part.cycles
+  pub cells : part.cells ≡ length pair.cells
+  pub grown : part.grown ≡ pair.grown
+  pub left : part.left ≡ pair.left

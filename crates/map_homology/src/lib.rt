@@ -1,0 +1,13 @@
+//! The tool on the map that a map of pairs induces in homology.
+#![tactic(auto)]
+
+mod bases;
+mod entries;
+mod laws;
+mod map_job;
+mod parts;
+mod reporting;
+mod tables;
+
+pub use laws::map_jobs_have_one_judgement;
+pub use map_job::{MapJob, homology_of_map};

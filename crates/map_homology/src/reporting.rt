@@ -1,0 +1,82 @@
+//! The report on a map of pairs.
+ghost use Rattle.std.specs.Prelude.{◌≡◌, ◌⊎◌, IfOk, IfErr, OnOk};
+ghost use Rattle.loading.specs.Jobs.{IsAllowed};
+ghost use Rattle.pair_maps.specs.declared.inputs.PairMap.{PairMap as PairMaps};
+ghost use Rattle.pair_maps.specs.Inputs.{IsFitting};
+ghost use Rattle.induced_map.specs.Matrices.{HaveFewEntries};
+ghost use Rattle.map_homology.specs.Bases.{AreBasesOf, AreBasesOfMap};
+ghost use Rattle.map_homology.specs.Right.{IsRightMap};
+ghost use Rattle.map_homology.specs.Refusals.{RefusesMapHomology};
+
+use crate::bases::{PairCells, domain_basis, range_basis};
+use crate::entries::test_entries;
+use crate::parts::part_of;
+use crate::tables::{ranks_of, tables_of};
+use chain_selector::Selector;
+use faults::Fault;
+use field_mod::Field;
+use homology_basis::{Basis, CycleBasis};
+use induced_map::matrices;
+use map_checks::Carrier;
+use pair_maps::{PairMap, carrier_of};
+use report::MapReport;
+use std::alloc::{AllocError as NoMemory, Global};
+
+/// The homology of both pairs of a map, and what the map induces in it, or the first refusal.
+pub(crate) fn report_over<const P: u16>(
+    alloc: Global,
+    field: Field<P>,
+    input: &PairMap,
+) -> Result<MapReport, Fault>
+    requires { IsFitting input.now }
+    ensures right { IfOk result (IsRightMap P input.now) }
+    ensures allowed { OnOk result (IsAllowed (RefusesMapHomology P) input.now) }
+    ensures fault { IfErr result
+        (λ fault. RefusesMapHomology P input.now fault ⊎ (fault ≡ Fault.OutOfMemory)) }
+{
+    let carrier = carrier_of(alloc, field, input)?;
+    let (domain, cycles) = domain_basis(alloc, field, &input.x, &input.a)?;
+    let (range, basis) = range_basis(alloc, field, &input.y, &input.b)?;
+    test_entries(&cycles, &basis, carrier.dimension())?;
+    let report = report_of(alloc, field, carrier, domain, &cycles, range, &basis)?;
+    Ok(report)
+}
+
+// The report on the map of a carrier, in the cycles of bases of its pairs.
+fn report_of<const P: u16>(
+    alloc: Global,
+    field: Field<P>,
+    carrier: Carrier<P>,
+    domain: PairCells,
+    cycles: &CycleBasis<P>,
+    range: PairCells,
+    basis: &Basis<P>,
+) -> Result<MapReport, NoMemory>
+    requires bases { AreBasesOfMap P carrier domain cycles.now range basis.now }
+    requires few { HaveFewEntries cycles.now basis.now carrier.dimension }
+    ensures { IfOk result (λ report. (m : PairMaps)
+        → AreBasesOf P m carrier.entry domain cycles.now range basis.now
+        → IsRightMap P m report) }
+{
+    let last = carrier.dimension();
+    let mut selector = Selector::new(alloc, field, carrier)?;
+    let all = matrices(
+        alloc,
+        field,
+        cycles,
+        &domain.cells,
+        basis,
+        &range.cells,
+        &mut selector,
+    )?;
+    let ranks = ranks_of(alloc, field, &all)?;
+    let tables = tables_of(alloc, &all)?;
+    let domain = part_of(alloc, domain, cycles, last)?;
+    let range = part_of(alloc, range, basis, last)?;
+    Ok(MapReport {
+        domain,
+        range,
+        ranks,
+        matrices: tables,
+    })
+}

@@ -1,0 +1,9 @@
+pub mod Files
+pub mod Fitting
+pub mod FirstCells
+pub mod Refusing
+pub mod Places
+pub mod Cells
+pub mod Refused
+pub mod Judging
+pub mod Moduli
