@@ -74,10 +74,10 @@ listed_past p n f one g l = coefficient-above p 0 n (listed_below p n f one).ter
 boundary_terms : (p : ℕ) → 1 ≤ p → List (List Factor) → List Factor → List (ℕ × ℕ)
 boundary_terms p one V q = (listed_below p (length V) (λ g. boundary_coefficient p q (cell_at V g)) one).terms
 
-complex_for : (p : ℕ) → 1 ≤ p → List (List Factor) → ChainComplex
+pub complex_for : (p : ℕ) → 1 ≤ p → List (List Factor) → ChainComplex
 complex_for p one V = record { degrees = map dimension_of V; boundaries = map (boundary_terms p one V) V }
 
-is_complex_for : (p : ℕ) (one : 1 ≤ p) (V : List (List Factor)) → length V < 2 ^ 32 → IsComplexOf p V (complex_for p one V)
+pub is_complex_for : (p : ℕ) (one : 1 ≤ p) (V : List (List Factor)) → length V < 2 ^ 32 → IsComplexOf p V (complex_for p one V)
 unfolding complex_for boundary_terms
 is_complex_for p one V few = record {
   degrees = refl;
@@ -95,7 +95,7 @@ is_complex_for p one V few = record {
 
 -- ---- what steps leave
 
-unpaired_or : (ss : List Step) (g : ℕ) → IsUnpaired ss g ⊎ (IsUnpaired ss g → ⊥)
+pub unpaired_or : (ss : List Step) (g : ℕ) → IsUnpaired ss g ⊎ (IsUnpaired ss g → ⊥)
 unpaired_or [] g = inl tt
 unpaired_or (s ∷ ss) g = ⊎_elim
     (λ e. inr (λ w. w.0 e))

@@ -25,7 +25,7 @@ use Rattle.cell_complex.specs.Numbering.{IsOfPair, IsComplexOf, by_cell, number_
 use Rattle.cell_complex.proofs.Squares.{operator}
 use Rattle.algebraic_reduction.specs.Laws.{AreStepsOf, NothingLeft, include_of, project_of}
 use Rattle.algebraic_reduction.proofs.Reductions.{steps_are_reductions}
-use Rattle.cell_complex.specs.Acyclic.{complex_of_set, IsHole}
+use Rattle.cell_complex.specs.Acyclic.{complex_of_set, IsAcyclic, IsHole}
 use Rattle.acyclic_values.specs.Contractions.{IsCellList, incidence_at, augmentation_at, IsContraction, LeaveVertex, IsLeftVertex, IsFirstLeft}
 use Rattle.acyclic_values.specs.Laws.{less_vertex}
 use Rattle.acyclic_values.specs.Faults.{IsWithin}
@@ -145,10 +145,13 @@ contraction_same p V v h k e c = record {
       same_trans (same-add (same_refl p (augmentation_at V m * single v s)) (same-add a b)) (c.identity m s l q);
 }
 
-pub contracted : (p : ℕ) (V : List (List Factor)) (log : Reduced) (v : ℕ) (hs : List (List (ℕ × ℕ))) → 2 ≤ p → IsCellList V → IsComplexOf p V log.complex → AreStepsOf p log.complex log.steps → IsLeftVertex log.complex log.steps v
-    → ((g : ℕ) → g < length log.complex.boundaries → IsUnpaired log.steps g → g ≡ v) → AreHomotopies p log hs (length log.complex.boundaries) → IsContracted p V (record { log = log; vertex = v; homotopies = hs })
-contracted p V log v hs two cl ck st lv alone hom =
-    let leave : LeaveVertex p log.complex log.steps v = record { made = st; inside = lv.inside; lowest = lv.lowest; left = lv.left; alone = alone } in
+pub left_alone : (p : ℕ) (log : Reduced) (v : ℕ) → AreStepsOf p log.complex log.steps → IsLeftVertex log.complex log.steps v
+    → ((g : ℕ) → g < length log.complex.boundaries → IsUnpaired log.steps g → g ≡ v) → LeaveVertex p log.complex log.steps v
+left_alone p log v st lv alone = record { made = st; inside = lv.inside; lowest = lv.lowest; left = lv.left; alone = alone }
+
+pub contracted : (p : ℕ) (V : List (List Factor)) (log : Reduced) (v : ℕ) (hs : List (List (ℕ × ℕ))) → 2 ≤ p → IsCellList V → IsComplexOf p V log.complex → LeaveVertex p log.complex log.steps v
+    → AreHomotopies p log hs (length log.complex.boundaries) → IsContracted p V (record { log = log; vertex = v; homotopies = hs })
+contracted p V log v hs two cl ck leave hom =
     let c : IsContraction p V v (nth_chain hs) = contraction_same p V v (λ m. homotopy_of p log.complex log.steps (single m)) (nth_chain hs) (λ m s l. hom.each m s (omega (arith, l, ck.count))) (last_vertices_contract p V log.complex log.steps v two cl ck leave) in
     record {
       complex = ck;
@@ -157,6 +160,10 @@ contracted p V log v hs two cl ck st lv alone hom =
       contracts = c;
       acyclic = contractions_are_acyclic p V v (nth_chain hs) cl c;
     }
+
+pub alone_acyclic : (p : ℕ) (V : List (List Factor)) (log : Reduced) (v : ℕ) → 2 ≤ p → IsCellList V → IsComplexOf p V log.complex → LeaveVertex p log.complex log.steps v → IsAcyclic p V
+alone_acyclic p V log v two cl ck leave =
+    contractions_are_acyclic p V v (λ m. homotopy_of p log.complex log.steps (single m)) cl (last_vertices_contract p V log.complex log.steps v two cl ck leave)
 
 -- ---- a hole
 

@@ -6,7 +6,7 @@ mod contraction;
 mod hole;
 mod laws;
 
-pub use contraction::{Contraction, contract_value};
+pub use contraction::{Contraction, contract_value, test_value};
 pub use hole::{Hole, ValueFault};
 pub use laws::{
     acyclic_or_hole, carried_maps_agree, carried_maps_exist, carried_maps_extend,

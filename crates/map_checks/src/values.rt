@@ -8,7 +8,7 @@ use crate::acyclic_shapes::AcyclicShapes;
 use crate::map_fault::MapFault;
 use crate::shape::shape_at;
 use crate::value::value_set;
-use acyclic_values::{ValueFault, contract_value};
+use acyclic_values::{ValueFault, test_value};
 use cube_maps::CubeMap;
 use cube_sets::CubeSet;
 use elem_cubes::Cell;
@@ -16,7 +16,7 @@ use field_mod::Field;
 use std::alloc::Global;
 
 // Whether the value at a cell of the domain is acyclic, else a hole of it.
-fn contract_at<const P: u16>(
+fn test_at<const P: u16>(
     alloc: Global,
     field: Field<P>,
     map: &CubeMap,
@@ -29,8 +29,8 @@ fn contract_at<const P: u16>(
     ensures err { IfErr result (IsFaultAt P map.now.named domain.now.cells cell.now) }
 {
     let set = value_set(alloc, map, domain, cell)?;
-    match contract_value(alloc, field, set.cells()) {
-        Ok(_) => Ok(()),
+    match test_value(alloc, field, set.cells()) {
+        Ok(()) => Ok(()),
         Err(ValueFault::NoMemory) => Err(MapFault::NoMemory),
         Err(ValueFault::Hole(hole)) => {
             let value = Vec::from_slice(alloc, set.cells())?;
@@ -61,7 +61,7 @@ fn check_value<const P: u16>(
     if known.has(&shape) {
         return Ok(());
     }
-    contract_at(alloc, field, map, domain, cell)?;
+    test_at(alloc, field, map, domain, cell)?;
     known.keep(shape);
     Ok(())
 }

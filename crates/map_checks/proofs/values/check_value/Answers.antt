@@ -9,5 +9,5 @@ returns-then-has-clause-ok g c =
 pub keep-requires : goal.keep-requires
 keep-requires g c = (
   (omega arith),
-  acyclic_shape g.row.P c.args.map.now.named c.args.domain.now.cells c.args.cell.now c.in_ok-shape.shape c.in_ok-shape.ensures c.in_ok-contract_at.ensures.ok,
+  acyclic_shape g.row.P c.args.map.now.named c.args.domain.now.cells c.args.cell.now c.in_ok-shape.shape c.in_ok-shape.ensures c.in_ok-test_at.ensures.ok,
 )
