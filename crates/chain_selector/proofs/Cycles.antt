@@ -1,94 +1,144 @@
--- What a contraction of a list of cells makes of a cycle on it: a chain that fills the cycle.
-use Rattle.std.proofs.Common.{◌≡◌, ◌≢◌, ℕ, ◌+◌, ◌*◌, ◌<◌, sym, ap, ◌∙◌, arith, ⊎_elim, cond, eq-eqb, ne_eqb, List, length, subst, true}
-use Rattle.std.proofs.lemmas.Bool.{cases_Bool, cases_eq}
-use Rattle.field_mod.specs.Sums.{total}
-use Rattle.field_mod.specs.Modular.{Same, NonZero}
-use Rattle.field_mod.proofs.Sums.{total-same, total-scale, total_same}
-use Rattle.field_mod.proofs.Modular.{same_refl, same_sym, same_trans, same-add, same-scale, decide_zero}
+-- What the homotopy of steps that leave no boundary makes of a cycle that is null: a chain that fills the cycle.
+use Rattle.std.proofs.Common.{◌≡◌, ℕ, ◌+◌, ◌*◌, ◌^◌, ◌<◌, ◌≤◌, refl, sym, ap, ◌∙◌, subst, arith, ⊎_elim, List, [], length, get_or, Bool, true, false, ◌&&◌}
+use mathlib.Core.Path.{fun_ext}
+use Rattle.std.proofs.lemmas.Bool.{cases_Bool, cases_lt, ltb-false, le-ltb}
+use Rattle.std.proofs.lemmas.List.{get_or-map}
+use Rattle.field_mod.specs.Modular.{Same}
+use Rattle.field_mod.proofs.Sums.{total_none}
+use Rattle.field_mod.proofs.Modular.{same_refl, same_sym, same_trans, same-add, same-scale}
 use Rattle.elem_cubes.specs.Cells.{Factor, dimension_of}
 use Rattle.elem_cubes.specs.Boundary.{boundary_at}
 use Rattle.elem_cubes.specs.Laws.{cell_at}
 use Rattle.elem_cubes.proofs.Modular.{exact}
-use Rattle.elem_cubes.proofs.Boundaries.{boundary_at_is_boundary}
-use Rattle.chains.specs.Homology.{IsChain}
+use Rattle.chains.specs.Terms.{coefficient, IsNormal}
+use Rattle.chains.specs.ChainComplex.{ChainComplex, IsComplex, system, incidence, boundary}
+use Rattle.chains.specs.Homology.{IsChain, IsCycle, IsNull, IsBoundaryOf}
+use Rattle.chains.proofs.TermLists.{coefficient-lt}
 use Rattle.cube_sets.specs.Closures.{is_cell_of}
-use Rattle.cell_complex.specs.RelativeComplex.{restriction_to}
-use Rattle.cell_complex.specs.Numbering.{by_cell}
-use Rattle.cell_complex.specs.Acyclic.{complex_of_set, IsReducedCycle}
-use Rattle.cell_complex.proofs.Squares.{restriction-on, restriction-off}
-use Rattle.cell_complex.proofs.Numbering.{listed}
-use Rattle.algebraic_reduction.specs.Reduction.{single}
-use Rattle.algebraic_reduction.proofs.LinearMaps.{total_picked}
-use Rattle.acyclic_values.specs.Contractions.{IsCellList, incidence_at, augmentation_at, IsContraction}
-use Rattle.acyclic_values.proofs.Sums.{by_terms, none_by_terms, none_in_front, total_total, total_behind}
-use Rattle.acyclic_values.proofs.Contracting.{listing, place, by_cell_at, by_cell_off, sum_here}
+use Rattle.cell_complex.specs.RelativeComplex.{is_relative, restriction_to}
+use Rattle.cell_complex.specs.Numbering.{IsListing, IsComplexOf, IsRelativeComplex, by_cell}
+use Rattle.cell_complex.specs.Acyclic.{complex_of_set}
+use Rattle.cell_complex.proofs.Numbering.{listed, boundary_by_cell}
+use Rattle.algebraic_reduction.specs.Reduction.{Step}
+use Rattle.algebraic_reduction.specs.Laws.{AreStepsOf, NothingLeft, IsReduction, IsLinear, left_of, project_of, include_of, homotopy_of}
+use Rattle.algebraic_reduction.specs.LogWords.{Reduced, Gives, homotopy_at}
+use Rattle.algebraic_reduction.proofs.LinearMaps.{TellsSame, through}
+use Rattle.algebraic_reduction.proofs.Residues.{same_zero}
+use Rattle.algebraic_reduction.proofs.Singles.{incidence_off}
+use Rattle.acyclic_values.specs.Contractions.{IsCellList}
+use Rattle.acyclic_values.proofs.Contracting.{listing, place, by_cell_at, by_cell_off, cx, red}
+use Rattle.chain_selector.specs.Multiples.{NamesBelow}
+use Rattle.chain_selector.specs.Fillings.{FillsIfNull}
 
-module _ (p : ℕ) (V : List (List Factor)) (v : ℕ) (g : ℕ → ℕ → ℕ) (cl : IsCellList V) (ct : IsContraction p V v g) (k : ℕ) (z : List Factor → ℕ) (cy : IsReducedCycle p V k z) where
-  abbrev n : ℕ
-  n = length V
+-- ---- by numbers
 
-  abbrev at : ℕ → List Factor
-  at = cell_at V
+module _ (p : ℕ) (K : ChainComplex) (ss : List Step) (is : IsComplex p K) (r : IsReduction p K ss) (done : NothingLeft p K ss) where
+  abbrev size : ℕ
+  size = length K.boundaries
 
-  abbrev bc : ℕ → ℕ → ℕ
-  bc = incidence_at p V
+  -- what a linear map gives 0
+  of_none : (f : (ℕ → ℕ) → ℕ → ℕ) → IsLinear p f → TellsSame p f → (x : ℕ → ℕ) → ((g : ℕ) → Same p (x g) 0) → (g : ℕ) → Same p (f x g) 0
+  of_none f linear same x none g = same_trans (same x (λ h. 0) none g) (through p f linear same 0 (λ i. 0) (λ i h. 0) g)
 
-  abbrev c : ℕ → ℕ
-  c m = z (at m)
+  pub boundary_past : (x : ℕ → ℕ) (g : ℕ) → size ≤ g → Same p (boundary K.boundaries x g) 0
+  boundary_past x g l = total_none p size (λ h. x h * incidence K.boundaries h g) (λ h q. same_trans (same-scale (x h) (exact p (incidence_off p K is h g q l))) (exact p (omega arith)))
 
-  -- the chain that the contraction gives at the cycle, by places
-  abbrev pub filling : ℕ → ℕ
-  filling h = total n (λ m. c m * g m h)
+  -- the projection of the boundary of y is 0, since no boundary is left
+  pub homotopy_fills : (c y : ℕ → ℕ) → ((g : ℕ) → Same p (boundary K.boundaries c g) 0) → ((g : ℕ) → Same p (c g) (boundary K.boundaries y g)) → (g : ℕ) → Same p (c g) (boundary K.boundaries (homotopy_of p K ss c) g)
+  homotopy_fills c y closed null g =
+      let nothing : (h : ℕ) → Same p (project_of p K ss c h) 0 = λ h. same_trans (r.project_same c (boundary K.boundaries y) null h) (same_trans (same_sym (r.project_boundary y h))
+      (total_none p size (λ i. project_of p K ss y i * left_of p K ss i h) (λ i _. same_trans (same-scale (project_of p K ss y i) (done i h)) (exact p (omega arith))))) in
+      let a : Same p (include_of p K ss (project_of p K ss c) g) 0 = of_none (include_of p K ss) r.include_linear r.include_same (project_of p K ss c) nothing g in
+      let b : Same p (homotopy_of p K ss (boundary K.boundaries c) g) 0 = of_none (homotopy_of p K ss) r.homotopy_linear r.homotopy_same (boundary K.boundaries c) closed g in
+      let x : ℕ = boundary K.boundaries (homotopy_of p K ss c) g in
+      same_sym (same_trans (exact p (let e : x ≡ 0 + (x + 0) = omega arith in e)) (same_trans (same-add (same_sym a) (same-add (same_refl p x) (same_sym b))) (r.identity c g)))
 
-  grade_of : (m : ℕ) → NonZero p (c m) → dimension_of (at m) ≡ k
-  grade_of m nz = ⊎_elim (λ e. e) (λ f. absurd (nz (cy.cycle.chain.of_degree (at m) f))) (cases_eq (dimension_of (at m)) k)
+-- ---- by cells
 
-  filling_degree : (h : ℕ) → dimension_of (at h) ≢ k + 1 → Same p (filling h) 0
-  filling_degree h f = none_by_terms p n c (λ m. g m h) (λ m l nz. ⊎_elim (λ e. e) (λ w. absurd (f ((ct.raises m h l w).1 ∙ ap (λ x. x + 1) (grade_of m nz)))) (decide_zero p (g m h)))
+module _ (p : ℕ) (V : List (List Factor)) (K : ChainComplex) (ss : List Step) (two : 2 ≤ p) (cl : IsCellList V) (ck : IsComplexOf p V K) (st : AreStepsOf p K ss) (done : NothingLeft p K ss) where
+  tests : is_relative V [] ≡ is_cell_of V
+  tests = fun_ext (λ q. and_true (is_cell_of V q))
+    where
+      and_true : (b : Bool) → (b && true) ≡ b
+      and_true true = refl
+      and_true false = refl
 
-  augmented : Same p (total n (λ m. c m * augmentation_at V m)) 0
-  augmented = ⊎_elim
-      (λ e. same_trans (by_terms p n c (augmentation_at V) (λ m. 1) (λ m l nz. exact p (ap (λ b. cond b 1 0) (eq-eqb (dimension_of (at m)) 0 (grade_of m nz ∙ e)))))
-      (same_trans (exact p (total-same n (λ m. c m * 1) c (λ m l. omega arith))) (same_trans (exact p (sym (sum_here V cl z))) (cy.augmentation e))))
-      (λ f. none_by_terms p n c (augmentation_at V) (λ m l nz. exact p (ap (λ b. cond b 1 0) (ne_eqb (dimension_of (at m)) 0 (λ e. f (sym (grade_of m nz) ∙ e))))))
-      (cases_eq k 0)
+  rel : IsRelativeComplex p V [] V K
+  rel = record { listing = subst (λ (t : List Factor → Bool). IsListing t V) (sym tests) (listing V cl); complex = ck }
 
-  closed : (t : ℕ) → t < n → Same p (total n (λ m. c m * bc m t)) 0
-  closed t l =
-      let w = boundary_at_is_boundary p V (restriction_to (is_cell_of V) z) (at t) (listing V cl).once (λ s f nz. ⊎_elim (λ e. place V cl s e) (λ e. absurd (nz (restriction-off (is_cell_of V) z s e))) (cases_Bool (is_cell_of V s))) in
-      let e = total-same n (λ m. c m * bc m t) (λ m. restriction_to (is_cell_of V) z (at m) * bc m t) (λ m q. ap (λ x. x * bc m t) (sym (restriction-on (is_cell_of V) z (at m) (listed (is_cell_of V) V (listing V cl) m q)))) in
-      same_trans (exact p e) (same_trans w (cy.cycle.closed (at t) (listed (is_cell_of V) V (listing V cl) t l)))
+  by_boundary : (c : ℕ → ℕ) (f : List Factor → ℕ) → ((i : ℕ) → i < length V → Same p (c i) (f (cell_at V i))) → (g : ℕ) → Same p (boundary K.boundaries c g) (boundary_at p (cell_at V g) (restriction_to (is_cell_of V) f))
+  by_boundary c f same g = subst (λ (t : List Factor → Bool). Same p (boundary K.boundaries c g) (boundary_at p (cell_at V g) (restriction_to t f))) tests (boundary_by_cell p V [] V K rel c f same g)
 
-  fills_at : (h : ℕ) → h < n → Same p (z (at h)) (boundary_at p (at h) (restriction_to (is_cell_of V) (by_cell V filling)))
-  fills_at h l =
-      let R : List Factor → ℕ = restriction_to (is_cell_of V) (by_cell V filling) in
-      let w = boundary_at_is_boundary p V R (at h) (listing V cl).once (λ s f nz. ⊎_elim (λ e. place V cl s e) (λ e. absurd (nz (restriction-off (is_cell_of V) (by_cell V filling) s e))) (cases_Bool (is_cell_of V s))) in
-      let e = total-same n (λ i. R (at i) * bc i h) (λ i. filling i * bc i h) (λ i q. ap (λ x. x * bc i h) (restriction-on (is_cell_of V) (by_cell V filling) (at i) (listed (is_cell_of V) V (listing V cl) i q) ∙ by_cell_at V cl filling i q)) in
-      let X : ℕ → ℕ = λ m. total n (λ t. g m t * bc t h) in
-      let Y : ℕ → ℕ = λ m. total n (λ t. bc m t * g t h) in
-      let E : ℕ → ℕ = λ m. augmentation_at V m * single v h in
-      let a : total n (λ i. filling i * bc i h) ≡ total n (λ m. c m * X m) = total_total n n c g (λ i. bc i h) in
-      let all : Same p (total n (λ m. c m * (E m + (X m + Y m)))) (c h) = same_trans (total_same p n (λ m. c m * (E m + (X m + Y m))) (λ m. c m * single m h) (λ m q. same-scale (c m) (ct.identity m h q l))) (exact p (total_picked n h c l)) in
-      let s1 = total_behind n c E (λ m. X m + Y m) in
-      let s2 = total_behind n c X Y in
-      let none_e : Same p (total n (λ m. c m * E m)) 0 =
-      same_trans (exact p (total-same n (λ m. c m * E m) (λ m. single v h * (c m * augmentation_at V m)) (λ m _. omega arith) ∙ total-scale n (single v h) (λ m. c m * augmentation_at V m)))
-      (same_trans (same-scale (single v h) augmented) (exact p (omega arith))) in
-      let none_y : Same p (total n (λ m. c m * Y m)) 0 =
-      same_trans (exact p (sym (total_total n n c bc (λ t. g t h)))) (none_in_front p n (λ t. total n (λ m. c m * bc m t)) (λ t. g t h) (λ t q. closed t q)) in
-      let x : ℕ = total n (λ m. c m * X m) in
-      let sum : Same p x (c h) = same_trans (same_trans (exact p (let k : x ≡ 0 + (x + 0) = omega arith in k)) (same_trans (same-add (same_sym none_e) (same-add (same_refl p x) (same_sym none_y))) (exact p (sym (s1 ∙ ap (λ q. total n (λ m. c m * E m) + q) s2))))) all in
-      same_sym (same_trans (same_sym w) (same_trans (exact p (e ∙ a)) sum))
+  complex : IsComplex p K
+  complex = cx p V K ss two cl ck st
 
-  pub filling_chain : IsChain p (complex_of_set p V) (k + 1) (by_cell V filling)
-  filling_chain = record {
-    on = λ q e. exact p (by_cell_off V cl filling q e);
-    of_degree = λ q f. ⊎_elim
-        (λ e. let w = place V cl q e in same_trans (exact p (ap (by_cell V filling) (sym w.2) ∙ by_cell_at V cl filling w.0 w.1)) (filling_degree w.0 (λ d. f (ap dimension_of (sym w.2) ∙ d))))
-        (λ e. exact p (by_cell_off V cl filling q e))
-        (cases_Bool (is_cell_of V q));
-  }
+  reduces : IsReduction p K ss
+  reduces = red p V K ss two cl ck st
 
-  -- its boundary is the cycle
-  pub filling_fills : (q : List Factor) → is_cell_of V q ≡ true → Same p (z q) (boundary_at p q (restriction_to (is_cell_of V) (by_cell V filling)))
-  filling_fills q e = let w = place V cl q e in subst (λ (x : List Factor). Same p (z x) (boundary_at p x (restriction_to (is_cell_of V) (by_cell V filling)))) w.2 (fills_at w.0 w.1)
+  here : (i : ℕ) → i < length V → is_cell_of V (cell_at V i) ≡ true
+  here i l = listed (is_cell_of V) V (listing V cl) i l
+
+  degree_here : (i : ℕ) → i < length V → get_or K.degrees i 0 ≡ dimension_of (cell_at V i)
+  degree_here i l = ap (λ ds. get_or ds i 0) ck.degrees ∙ get_or-map dimension_of V i [] 0 l
+
+  module _ (k : ℕ) (c : ℕ → ℕ) (past : (g : ℕ) → length V ≤ g → c g ≡ 0) (cy : IsCycle p (complex_of_set p V) k (by_cell V c)) (nz : IsNull p (complex_of_set p V) k (by_cell V c)) where
+    abbrev y : ℕ → ℕ
+    y i = nz.filling (cell_at V i)
+
+    closed : (g : ℕ) → Same p (boundary K.boundaries c g) 0
+    closed g = ⊎_elim
+        (λ l. same_trans (by_boundary c (by_cell V c) (λ i q. exact p (sym (by_cell_at V cl c i q))) g) (cy.closed (cell_at V g) (here g l)))
+        (λ m. boundary_past p K ss complex reduces done c g (omega (arith, m, ck.count)))
+        (cases_lt g (length V))
+
+    null : (g : ℕ) → Same p (c g) (boundary K.boundaries y g)
+    null g = ⊎_elim
+        (λ l. same_trans (exact p (sym (by_cell_at V cl c g l))) (same_trans (nz.fills (cell_at V g) (here g l)) (same_sym (by_boundary y nz.filling (λ i _. same_refl p (nz.filling (cell_at V i))) g))))
+        (λ m. same_trans (exact p (past g m)) (same_sym (boundary_past p K ss complex reduces done y g (omega (arith, m, ck.count)))))
+        (cases_lt g (length V))
+
+    numbered : IsChain p (system K) k c
+    numbered = record {
+      on = λ g e. exact p (past g (omega (arith, ltb-false g (length K.boundaries) e, ck.count)));
+      of_degree = λ g f. ⊎_elim
+          (λ l. same_trans (exact p (sym (by_cell_at V cl c g l))) (cy.chain.of_degree (cell_at V g) (λ e. f (degree_here g l ∙ e))))
+          (λ m. exact p (past g m))
+          (cases_lt g (length V));
+    }
+
+    raised : IsChain p (system K) (k + 1) (homotopy_of p K ss c)
+    raised = reduces.homotopy_degree k c numbered
+
+    -- a chain b that the homotopy gives
+    module _ (b : ℕ → ℕ) (gives : (g : ℕ) → Same p (b g) (homotopy_of p K ss c g)) where
+      pub gives_none : (g : ℕ) → length V ≤ g → Same p (b g) 0
+      gives_none g m = same_trans (gives g) (raised.on g (le-ltb g (length K.boundaries) (omega (arith, m, ck.count))))
+
+      pub chain : IsChain p (complex_of_set p V) (k + 1) (by_cell V b)
+      chain = record {
+        on = λ q e. exact p (by_cell_off V cl b q e);
+        of_degree = λ q f. ⊎_elim
+            (λ e.
+            let w = place V cl q e in
+            let at = raised.of_degree w.0 (λ d. f (ap dimension_of (sym w.2) ∙ sym (degree_here w.0 w.1) ∙ d)) in
+            same_trans (exact p (ap (by_cell V b) (sym w.2) ∙ by_cell_at V cl b w.0 w.1)) (same_trans (gives w.0) at))
+            (λ e. exact p (by_cell_off V cl b q e))
+            (cases_Bool (is_cell_of V q));
+      }
+
+      fills_at : (i : ℕ) → i < length V → Same p (by_cell V c (cell_at V i)) (boundary_at p (cell_at V i) (restriction_to (is_cell_of V) (by_cell V b)))
+      fills_at i l =
+          same_trans (exact p (by_cell_at V cl c i l)) (same_trans (homotopy_fills p K ss complex reduces done c y closed null i)
+          (by_boundary (homotopy_of p K ss c) (by_cell V b) (λ j q. same_trans (same_sym (gives j)) (exact p (sym (by_cell_at V cl b j q)))) i))
+
+      pub fills : IsBoundaryOf p (complex_of_set p V) (by_cell V c) (by_cell V b)
+      fills q e = let w = place V cl q e in subst (λ (x : List Factor). Same p (by_cell V c x) (boundary_at p x (restriction_to (is_cell_of V) (by_cell V b)))) w.2 (fills_at w.0 w.1)
+
+-- what a log that leaves no boundary gives at a chain of places
+pub fills_if_null : (p : ℕ) (V : List (List Factor)) (log : Reduced) (c b : List (ℕ × ℕ)) → 2 ≤ p → IsCellList V → IsComplexOf p V log.complex → AreStepsOf p log.complex log.steps → NothingLeft p log.complex log.steps
+    → NamesBelow (length V) c → IsNormal p b → Gives p b (homotopy_at p log c) → FillsIfNull p V c b
+fills_if_null p V log c b two cl ck st done past normal gives k cy nz = record {
+  within = λ g m. same_zero p (coefficient b g) (coefficient-lt p 0 (2 ^ 32) b g (omega arith) normal) (gives_none p V log.complex log.steps two cl ck st done k (coefficient c) past cy nz (coefficient b) gives g m);
+  chain = chain p V log.complex log.steps two cl ck st done k (coefficient c) past cy nz (coefficient b) gives;
+  fills = fills p V log.complex log.steps two cl ck st done k (coefficient c) past cy nz (coefficient b) gives;
+}

@@ -1,59 +1,42 @@
--- The image of a cell that a contraction of its value makes of the image of its boundary.
-use Rattle.std.proofs.Common.{◌≡◌, ℕ, ◌+◌, ◌*◌, ◌%◌, ◌<◌, ◌≤◌, sym, ap, ◌∙◌, subst, arith, ⊎_elim, List, length, Bool, true, false}
+-- The image of a cell: a chain on its value that fills the image of its boundary.
+use Rattle.std.proofs.Common.{◌≡◌, ℕ, ◌+◌, ◌*◌, ◌<◌, ◌≤◌, sym, ap, ◌∙◌, subst, arith, ⊎_elim, List, length, Bool, true, false}
 use Rattle.std.proofs.lemmas.Bool.{true≢false, cases_Bool, cases_lt}
-use native.Mathlib.Nat.{mod-mod}
-use Rattle.field_mod.specs.Sums.{total}
 use Rattle.field_mod.specs.Modular.{Same, NonZero}
-use Rattle.field_mod.proofs.Sums.{total_same, total_none}
-use Rattle.field_mod.proofs.Modular.{same_refl, same_sym, same_trans, same-scale, same-mul, decide_zero}
+use Rattle.field_mod.proofs.Sums.{total_same}
+use Rattle.field_mod.proofs.Modular.{same_refl, same_sym, same_trans, same-mul}
 use Rattle.elem_cubes.specs.Cells.{Factor, dimension_of}
-use Rattle.elem_cubes.specs.Boundary.{boundary_coefficient}
+use Rattle.elem_cubes.specs.Boundary.{boundary_at, boundary_coefficient}
 use Rattle.elem_cubes.specs.Laws.{cell_at}
 use Rattle.elem_cubes.proofs.Modular.{exact}
 use Rattle.elem_cubes.proofs.Boundaries.{boundary_same}
-use Rattle.chains.specs.Terms.{coefficient, nth_chain}
-use Rattle.chains.specs.ChainComplex.{boundary}
-use Rattle.chains.specs.Homology.{IsChain, IsCycle, IsNull}
+use Rattle.chains.specs.Terms.{coefficient}
+use Rattle.chains.specs.Homology.{IsCycle, IsNull}
+use Rattle.chains.proofs.Systems.{boundary-same, null-same}
 use Rattle.cube_sets.specs.Closures.{is_cell_of, cells_of}
 use Rattle.cell_complex.specs.Boundaries.{IsBoundaryAmong}
 use Rattle.cell_complex.specs.RelativeComplex.{complex_on}
 use Rattle.cell_complex.specs.Numbering.{by_cell, number_of}
 use Rattle.cell_complex.specs.Acyclic.{complex_of_set, IsReducedCycle}
+use Rattle.cell_complex.proofs.Squares.{operator}
 use Rattle.cell_complex.proofs.Deciding.{closed}
 use Rattle.cell_complex.proofs.Numbering.{listed, number_within, at_number}
 use Rattle.acyclic_values.specs.Values.{in_value, IsValueAt}
 use Rattle.acyclic_values.specs.CarriedMaps.{image, IsCarriedAt}
 use Rattle.acyclic_values.specs.Contractions.{IsCellList}
-use Rattle.acyclic_values.specs.Contracted.{Contracted, IsContracted, homotopy_in}
 use Rattle.acyclic_values.proofs.Sums.{face_of_nonzero}
 use Rattle.acyclic_values.proofs.Cells.{cells_listing, sum_within}
 use Rattle.acyclic_values.proofs.Values.{values_carry}
 use Rattle.acyclic_values.proofs.Carrying.{false_below, IsCarrying, IsReducedOn, filled}
 use Rattle.acyclic_values.proofs.Existence.{image_of_boundary}
-use Rattle.acyclic_values.proofs.Contracting.{listing, by_cell_off}
+use Rattle.acyclic_values.proofs.Contracting.{listing, place, by_cell_at, by_cell_off}
 use Rattle.chain_selector.specs.Selections.{Selection, IsSelection, IsImageOf, domain_cells, range_cells, kept_image}
 use Rattle.chain_selector.specs.Renumbered.{IsRenumbered}
+use Rattle.chain_selector.specs.Fillings.{IsFilling, FillsIfNull}
 use Rattle.chain_selector.specs.Right.{HasKeptFaces, IsRightImage}
 use Rattle.chain_selector.proofs.OtherNumbers.{by_cell-at, by_cell-past}
 use Rattle.chain_selector.proofs.OtherNumbers as numbered
 use Rattle.chain_selector.proofs.Summing.{number_is}
-use Rattle.chain_selector.proofs.Cycles.{filling, filling_chain, filling_fills}
-use Rattle.chain_selector.proofs.Values.{cell_list, same_test, same_tests, in_range}
-
--- what a contraction makes of a chain of places names no place past the list
-pub filling_past : (p : ℕ) (V : List (List Factor)) (con : Contracted) (cyc fl : List (ℕ × ℕ)) → IsContracted p V con → ((h : ℕ) → coefficient fl h ≡ boundary con.homotopies (coefficient cyc) h % p) → (g : ℕ) → length V ≤ g → coefficient fl g ≡ 0
-filling_past p V con cyc fl ct f g past =
-    let none : Same p (boundary con.homotopies (coefficient cyc) g) 0 = total_none p (length con.homotopies) (λ m. coefficient cyc m * nth_chain con.homotopies m g) (λ m l. ⊎_elim
-    (λ z. same_trans (same-scale (coefficient cyc m) z) (exact p (times_none (coefficient cyc m))))
-    (λ nz. absurd (let r = ct.contracts.raises m g (omega (arith, l, ct.count)) nz in omega (arith, r.0)))
-    (decide_zero p (nth_chain con.homotopies m g))) in
-    f g ∙ none.same ∙ none_of p
-  where
-    times_none : (n : ℕ) → n * 0 ≡ 0
-    times_none n = omega arith
-
-    none_of : (q : ℕ) → 0 % q ≡ 0
-    none_of q = omega arith
+use Rattle.chain_selector.proofs.Values.{cell_list, acyclic_value, same_test, same_tests, in_range}
 
 module _ (p : ℕ) (s : Selection) (sel : IsSelection p s) (one : 1 ≤ p) (q : List Factor) (at : is_cell_of s.carrying.domain q ≡ true) (V : List (List Factor)) (v : IsValueAt s.carrying.map s.carrying.domain q V) where
   abbrev ds : List (List Factor)
@@ -103,7 +86,7 @@ module _ (p : ℕ) (s : Selection) (sel : IsSelection p s) (one : 1 ≤ p) (q : 
       (λ past. exact p (by_cell-past V c x past ∙ sym (by_cell-past V d x past)))
       (cases_lt (number_of V x) (length V))
 
-  module _ (k : ℕ) (higher : k + 1 ≡ dimension_of q) (kept : HasKeptFaces s q (dimension_of q)) (con : Contracted) (ct : IsContracted p V con) where
+  module _ (k : ℕ) (higher : k + 1 ≡ dimension_of q) (kept : HasKeptFaces s q (dimension_of q)) (bd im cyc : List (ℕ × ℕ)) (b : IsBoundaryAmong p ds q bd) (i : IsImageOf p s bd im) (r : IsRenumbered p rs V im cyc) where
     -- the image of the boundary, a cycle on the value
     abbrev w : List Factor → ℕ
     w = image ds (kept_image s) (boundary_coefficient p q)
@@ -120,47 +103,54 @@ module _ (p : ℕ) (s : Selection) (sel : IsSelection p s) (one : 1 ≤ p) (q : 
       augmentation = λ o. same_trans (same_sym (sum_within p (is_cell_of V) R (cells_of V) rs (cells_listing V) (cells_listing s.carrying.range) into w (λ x e. around.cycle.chain.on x (sym (tests x) ∙ e)))) (around.augmentation o);
     }
 
-    abbrev F : ℕ → ℕ
-    F = filling p V con.vertex (homotopy_in con) cl ct.contracts k w cy
-
-    chain_f : IsChain p (complex_of_set p V) (k + 1) (by_cell V F)
-    chain_f = filling_chain p V con.vertex (homotopy_in con) cl ct.contracts k w cy
-
-    null_w : IsNull p (complex_of_set p V) k w
-    null_w = record { filling = by_cell V F; chain = chain_f; fills = filling_fills p V con.vertex (homotopy_in con) cl ct.contracts k w cy }
-
-    -- what the program makes of the image of the boundary: a cycle of places, ..
-    image_same : (bd : List (ℕ × ℕ)) → IsBoundaryAmong p ds q bd → (x : List Factor) → Same p (image ds (kept_image s) (by_cell ds (coefficient bd)) x) (w x)
-    image_same bd b x = total_same p (length ds) (λ i. by_cell ds (coefficient bd) (cell_at ds i) * kept_image s (cell_at ds i) x) (λ i. boundary_coefficient p q (cell_at ds i) * kept_image s (cell_at ds i) x) (λ i l.
+    -- what the program makes of it, a chain of places, is the same
+    image_same : (x : List Factor) → Same p (image ds (kept_image s) (by_cell ds (coefficient bd)) x) (w x)
+    image_same x = total_same p (length ds) (λ i. by_cell ds (coefficient bd) (cell_at ds i) * kept_image s (cell_at ds i) x) (λ i. boundary_coefficient p q (cell_at ds i) * kept_image s (cell_at ds i) x) (λ i l.
         let m = number_is s i l in
         same-mul (same_trans (exact p (by_cell-at ds (coefficient bd) (cell_at ds i) (omega (arith, m)) ∙ ap (coefficient bd) m)) (b.coefficients i)) (same_refl p (kept_image s (cell_at ds i) x)))
 
-    cycle_at : (bd im cyc : List (ℕ × ℕ)) → IsBoundaryAmong p ds q bd → IsImageOf p s bd im → IsRenumbered p rs V im cyc → (m : ℕ) → m < length V → Same p (coefficient cyc m) (w (cell_at V m))
-    cycle_at bd im cyc b i r m l =
+    cycle_at : (m : ℕ) → m < length V → Same p (coefficient cyc m) (w (cell_at V m))
+    cycle_at m l =
         let x : List Factor = cell_at V m in
         let e = into x (listed (is_cell_of V) V (listing V cl) m l) in
         let n = number_within R rs (cells_listing s.carrying.range) x e in
         let a = at_number R rs (cells_listing s.carrying.range) x e in
-        same_trans (r.at m l) (same_trans (exact p (by_cell-at rs (coefficient im) x n)) (same_trans (i.value (number_of rs x) n) (same_trans (exact p (ap (image ds (kept_image s) (by_cell ds (coefficient bd))) a)) (image_same bd b x))))
+        same_trans (r.at m l) (same_trans (exact p (by_cell-at rs (coefficient im) x n)) (same_trans (i.value (number_of rs x) n) (same_trans (exact p (ap (image ds (kept_image s) (by_cell ds (coefficient bd))) a)) (image_same x))))
 
-    -- .. and a chain that it fills
-    filling_at : (bd im cyc fl : List (ℕ × ℕ)) → IsBoundaryAmong p ds q bd → IsImageOf p s bd im → IsRenumbered p rs V im cyc → ((h : ℕ) → coefficient fl h ≡ boundary con.homotopies (coefficient cyc) h % p) → (h : ℕ) → Same p (coefficient fl h) (F h)
-    filling_at bd im cyc fl b i r f h =
-        same_trans (record { same = ap (λ x. x % p) (f h) ∙ mod-mod (boundary con.homotopies (coefficient cyc) h) p })
-        (same_trans (exact p (ap (λ n. total n (λ m. coefficient cyc m * nth_chain con.homotopies m h)) ct.count))
-        (total_same p (length V) (λ m. coefficient cyc m * nth_chain con.homotopies m h) (λ m. w (cell_at V m) * nth_chain con.homotopies m h) (λ m l. same-mul (cycle_at bd im cyc b i r m l) (same_refl p (nth_chain con.homotopies m h)))))
+    abbrev c : List Factor → ℕ
+    c = by_cell V (coefficient cyc)
 
-    pub right_filling : (bd im cyc fl ts : List (ℕ × ℕ)) → IsBoundaryAmong p ds q bd → IsImageOf p s bd im → IsRenumbered p rs V im cyc → ((h : ℕ) → coefficient fl h ≡ boundary con.homotopies (coefficient cyc) h % p) → IsRenumbered p V rs fl ts → IsRightImage p s q ts
-    unfolding null_w
-    right_filling bd im cyc fl ts b i r f t = record {
+    cycle_same : (x : List Factor) → Same p (c x) (w x)
+    cycle_same x = ⊎_elim
+        (λ e. let n = place V cl x e in same_trans (exact p (ap c (sym n.2) ∙ by_cell_at V cl (coefficient cyc) n.0 n.1)) (same_trans (cycle_at n.0 n.1) (exact p (ap w n.2))))
+        (λ e. same_trans (exact p (by_cell_off V cl (coefficient cyc) x e)) (same_sym (cy.cycle.chain.on x e)))
+        (cases_Bool (is_cell_of V x))
+
+    is_cycle : IsCycle p (complex_of_set p V) k c
+    is_cycle = record {
+      chain = record { on = λ x e. same_trans (cycle_same x) (cy.cycle.chain.on x e); of_degree = λ x f. same_trans (cycle_same x) (cy.cycle.chain.of_degree x f) };
+      closed = λ x e. same_trans (boundary-same p (complex_of_set p V) (operator p (is_cell_of V)) c w cycle_same x e) (cy.cycle.closed x e);
+    }
+
+    is_null : IsNull p (complex_of_set p V) k c
+    is_null = null-same p (complex_of_set p V) k w c (λ x _. cycle_same x) ((acyclic_value p s.carrying sel.carrier q at V v).null k w cy)
+
+    pub filling_is : (fl : List (ℕ × ℕ)) → FillsIfNull p V cyc fl → IsFilling p V k cyc fl
+    filling_is fl f = f k is_cycle is_null
+
+    pub right_filling : (fl ts : List (ℕ × ℕ)) → FillsIfNull p V cyc fl → IsRenumbered p V rs fl ts → IsRightImage p s q ts
+    right_filling fl ts f t = record {
       within = t.within;
       chain = record {
-        on = λ g e. same_trans (same g) (chain_f.on g (tests g ∙ e));
-        of_degree = λ g ne. same_trans (same g) (chain_f.of_degree g (λ d. ne (d ∙ higher)));
+        on = λ g e. same_trans (same g) ((filling_is fl f).chain.on g (tests g ∙ e));
+        of_degree = λ g ne. same_trans (same g) ((filling_is fl f).chain.of_degree g (λ d. ne (d ∙ higher)));
       };
-      commutes = λ r. same_trans (boundary_same p r (by_cell rs (coefficient ts)) (by_cell V F) (λ x _. same x)) (same_sym (filled p (is_cell_of V) (closed V) k w cy.cycle.chain null_w r));
+      commutes = λ x. same_trans (boundary_same p x (by_cell rs (coefficient ts)) (by_cell V (coefficient fl)) (λ y _. same y)) (same_trans (same_sym (filled_by x)) (cycle_same x));
       augmentation = λ z. absurd (omega (arith, higher, z));
     }
       where
-        same : (x : List Factor) → Same p (by_cell rs (coefficient ts) x) (by_cell V F x)
-        same x = same_trans (renumbered_same fl ts t x) (by_cell_same (coefficient fl) F x (filling_at bd im cyc fl b i r f))
+        same : (x : List Factor) → Same p (by_cell rs (coefficient ts) x) (by_cell V (coefficient fl) x)
+        same x = renumbered_same fl ts t x
+
+        filled_by : (x : List Factor) → Same p (c x) (boundary_at p x (by_cell V (coefficient fl)))
+        filled_by x = filled p (is_cell_of V) (closed V) k c is_cycle.chain (record { filling = by_cell V (coefficient fl); chain = (filling_is fl f).chain; fills = (filling_is fl f).fills }) x

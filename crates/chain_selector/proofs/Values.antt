@@ -1,5 +1,5 @@
 -- The value at a cell, as a list of cells of the range.
-use Rattle.std.proofs.Common.{◌≡◌, ◌≢◌, ℕ, suc, ◌+◌, ◌<◌, ◌≤◌, refl, sym, ap, ◌∙◌, subst, arith, ⊎_elim, List, [], ◌∷◌, length, filter, cond, Bool, true, false}
+use Rattle.std.proofs.Common.{◌≡◌, ◌≢◌, ℕ, suc, ◌+◌, ◌<◌, ◌≤◌, refl, sym, ap, ◌∙◌, arith, ⊎_elim, List, [], ◌∷◌, length, filter, cond, Bool, true, false}
 use mathlib.Core.Path.{fun_ext}
 use Rattle.std.specs.List.{Contains, list_all}
 use Rattle.std.specs.Cmp.{both_ways}
@@ -16,15 +16,11 @@ use Rattle.cell_complex.specs.Acyclic.{IsAcyclic}
 use Rattle.cell_complex.proofs.Numbering.{found}
 use Rattle.acyclic_values.specs.Values.{in_value, IsValueAt}
 use Rattle.acyclic_values.specs.Contractions.{IsCellList}
-use Rattle.acyclic_values.specs.Faults.{IsValueFault}
-use Rattle.acyclic_values.specs.declared.hole.Hole.{Hole}
-use Rattle.acyclic_values.specs.declared.hole.ValueFault.{ValueFault}
-use Rattle.acyclic_values.specs.declared.hole.ValueFault.TheVariants as values
 use Rattle.acyclic_values.proofs.Cells.{cells_listing, all_In, In_all, corner, corner_face, corner_dimension}
 use Rattle.acyclic_values.proofs.Values.{value_to, value_from, value_list, value_list_is, values_are_one, values_carry}
 use Rattle.acyclic_values.proofs.Contracting.{member}
 use Rattle.map_checks.specs.Carriers.{Carrying, IsCarrier}
-use Rattle.map_checks.proofs.Hollow.{value_closed, hole_hollow}
+use Rattle.map_checks.proofs.Hollow.{value_closed}
 
 filter_few : (test : List Factor → Bool) (xs : List (List Factor)) → length (filter test xs) ≤ length xs
 filter_few test [] = omega arith
@@ -52,10 +48,6 @@ no_vertex_more V n d q before at e none k l z = ⊎_elim
 pub not_empty : (V : List (List Factor)) → V ≢ [] → 0 < length V
 not_empty [] n = absurd (n refl)
 not_empty (q ∷ qs) n = omega arith
-
--- an acyclic list has no hole
-pub never_hollow : (p : ℕ) (cells : List (List Factor)) (fault : ValueFault p) (hole : Hole p) → 2 ≤ p → fault ≡ values.Hole hole → IsValueFault p cells fault → IsAcyclic p cells → ⊥
-never_hollow p cells fault hole two e h ac = hole_hollow p cells hole two (subst (IsValueFault p cells) e h) ac
 
 -- the value V at the cell q
 module _ (p : ℕ) (c : Carrying) (is : IsCarrier p c) (q : List Factor) (at : is_cell_of c.domain q ≡ true) (V : List (List Factor)) (v : IsValueAt c.map c.domain q V) where

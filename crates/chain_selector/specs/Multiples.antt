@@ -1,8 +1,7 @@
--- Sums of multiples of chains.
-use Rattle.std.specs.Prelude.{◌≡◌, ℕ, ◌+◌, ◌*◌, ◌%◌, ◌≤◌, List}
+-- Multiples of chains.
+use Rattle.std.specs.Prelude.{◌≡◌, ℕ, ◌+◌, ◌*◌, ◌≤◌, List}
 use Rattle.field_mod.specs.Modular.{Same}
 use Rattle.chains.specs.Terms.{coefficient}
-use Rattle.chains.specs.ChainComplex.{boundary}
 
 -- the chain ts names no number from n on
 abbrev pub NamesBelow : ℕ → List (ℕ × ℕ) → Type 0
@@ -11,7 +10,3 @@ NamesBelow n ts = (g : ℕ) → n ≤ g → coefficient ts g ≡ 0
 -- the terms became those with a number times the chain ts
 abbrev pub AddsMultiple : ℕ → ℕ → List (ℕ × ℕ) → List (ℕ × ℕ) → List (ℕ × ℕ) → Type 0
 AddsMultiple p scale ts old new = (g : ℕ) → Same p (coefficient new g) (coefficient old g + scale * coefficient ts g)
-
--- the chain b is the sum of the chains of a list, each times what the chain ts has at its number
-abbrev pub IsSumOf : ℕ → List (List (ℕ × ℕ)) → List (ℕ × ℕ) → List (ℕ × ℕ) → Type 0
-IsSumOf p chains ts b = (g : ℕ) → coefficient b g ≡ boundary chains (coefficient ts) g % p

@@ -1,15 +1,13 @@
-//! Contractions of values, and what they fill.
+//! Vertices of values, and chains on values that fill cycles.
 ghost use Rattle.std.specs.Prelude.{◌≡◌, ◌<◌, length, IfOk};
 ghost use Rattle.elem_cubes.specs.Cells.{dimension_of};
 ghost use Rattle.elem_cubes.specs.Laws.{cell_at};
-ghost use Rattle.cell_complex.specs.Acyclic.{IsAcyclic};
 ghost use Rattle.cell_complex.specs.RelativeComplex.{IsClosedList};
-ghost use Rattle.acyclic_values.specs.Contracted.{IsContracted};
-ghost use Rattle.chain_selector.specs.Multiples.{NamesBelow, IsSumOf};
+ghost use Rattle.chain_selector.specs.Multiples.{NamesBelow};
+ghost use Rattle.chain_selector.specs.Fillings.{FillsIfNull};
 
-use crate::sums::push_scaled;
-use acyclic_values::{Contraction, ValueFault, contract_value};
-use cell_complex::Numbered;
+use algebraic_reduction::Log;
+use cell_complex::{Numbered, complex_of};
 use chains::Chain;
 use field_mod::Field;
 use std::alloc::{AllocError as NoMemory, Global};
@@ -29,39 +27,25 @@ pub(crate) fn first_vertex(value: &Numbered) -> u32
     unreachable!()
 }
 
-/// A contraction of an acyclic list of cells.
-pub(crate) fn contraction_of<const P: u16>(
+/// A chain on a list of cells that is closed under faces, which fills a chain on it where that is a
+/// null cycle: what the homotopy of steps that leave no boundary gives there.
+pub(crate) fn filling_of<const P: u16>(
     alloc: Global,
     field: Field<P>,
     value: &Numbered,
-) -> Result<Contraction<P>, NoMemory>
-    requires acyclic { IsAcyclic P value.now }
-    requires closed { IsClosedList value.now }
-    ensures { IfOk result (IsContracted P value.now) }
-{
-    match contract_value(alloc, field, value.cells()) {
-        Ok(contraction) => Ok(contraction),
-        Err(ValueFault::NoMemory) => Err(NoMemory),
-        Err(ValueFault::Hole(_)) => unreachable!(),
-    }
-}
-
-/// The chain of a contraction at a chain of places: the sum of those at its cells, each times its
-/// coefficient.
-pub(crate) fn homotopy_of_chain<const P: u16>(
-    alloc: Global,
-    field: Field<P>,
-    contraction: &Contraction<P>,
-    chain: &Chain<P>,
+    cycle: &Chain<P>,
 ) -> Result<Chain<P>, NoMemory>
-    requires { NamesBelow (length contraction.now.homotopies) chain.now }
-    ensures { IfOk result (IsSumOf P contraction.now.homotopies chain.now) }
+    requires closed { IsClosedList value.now }
+    requires within { NamesBelow (length value.now) cycle.now }
+    ensures { IfOk result (FillsIfNull P value.now cycle.now) }
 {
-    let mut terms = Vec::new(alloc);
-    for place in 0..chain.len() {
-        let (cell, number) = chain.term(place);
-        push_scaled(field, number, contraction.homotopy(cell), &mut terms)?;
-    }
-    let sum = Chain::from_terms(alloc, field, &terms)?;
-    Ok(sum)
+    // Its clauses say that the cells stand in order.
+    let _count = value.len();
+    let complex = complex_of(alloc, field, value)?;
+    let log = Log::start(alloc, complex)?.reduce_all(field)?;
+    let filling = log.homotopy(alloc, field, cycle)?;
+    // Their clauses say what a log and a chain are.
+    let _steps = log.step_count();
+    let _terms = filling.len();
+    Ok(filling)
 }

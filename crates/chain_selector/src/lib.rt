@@ -1,5 +1,5 @@
-//! A chain map that a map with acyclic values carries, made cell by cell: each image from those of
-//! the faces, by a contraction of the value.
+//! A chain map that a map with acyclic values carries, made cell by cell: each image fills, on the
+//! value, what the images of the faces give.
 #![tactic(auto)]
 
 mod boundary;

@@ -9,7 +9,7 @@ ghost use Rattle.chain_selector.specs.Selections.{Extends, IsInDomain, AreKept, 
 ghost use Rattle.chain_selector.specs.Selections.{IsOfOneMap, IsSelection};
 
 use crate::boundary::boundary_of;
-use crate::filling::{contraction_of, first_vertex, homotopy_of_chain};
+use crate::filling::{filling_of, first_vertex};
 use crate::renumbering::renumbered;
 use crate::sums::push_scaled;
 use cell_complex::Numbered;
@@ -230,8 +230,8 @@ impl<const P: u16> Selector<P> {
         Ok(())
     }
 
-    // A right image of a cell whose lower faces have kept ones: a vertex of its value, or what a
-    // contraction of its value makes of the image of its boundary.
+    // A right image of a cell whose lower faces have kept ones: a vertex of its value, or a chain on
+    // it that fills the image of its boundary.
     fn right_image(&self, field: Field<P>, cell: &Cell) -> Result<Chain<P>, NoMemory>
         requires domain { IsTrue (is_cell_of self.now.carrying.domain cell.now) }
         requires faces { HasKeptFaces self.now cell.now (dimension_of cell.now) }
@@ -276,8 +276,8 @@ impl<const P: u16> Selector<P> {
         Ok(image)
     }
 
-    // A right image of a cell of higher dimension: what a contraction of its value makes of the
-    // image of its boundary, a cycle on the value.
+    // A right image of a cell of higher dimension: a chain on its value that fills the image of its
+    // boundary, a cycle there.
     fn filled_image(
         &self,
         field: Field<P>,
@@ -295,8 +295,7 @@ impl<const P: u16> Selector<P> {
         let boundary = boundary_of(self.alloc, field, self.domain_cells(), cell)?;
         let around = self.sum_of_images(field, &boundary)?;
         let cycle = renumbered(self.alloc, field, &around, self.range_cells(), value)?;
-        let contraction = contraction_of(self.alloc, field, value)?;
-        let filling = homotopy_of_chain(self.alloc, field, &contraction, &cycle)?;
+        let filling = filling_of(self.alloc, field, value, &cycle)?;
         let image = renumbered(self.alloc, field, &filling, value, self.range_cells())?;
         Ok(image)
     }
