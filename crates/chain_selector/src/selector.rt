@@ -230,8 +230,8 @@ impl<const P: u16> Selector<P> {
         Ok(())
     }
 
-    // A right image of a cell whose lower faces have kept ones: a vertex of its value, or a chain on
-    // it that fills the image of its boundary.
+    // A right image of a cell whose lower faces have kept ones: a vertex of its value, or a chain
+    // on it that fills the image of its boundary.
     fn right_image(&self, field: Field<P>, cell: &Cell) -> Result<Chain<P>, NoMemory>
         requires domain { IsTrue (is_cell_of self.now.carrying.domain cell.now) }
         requires faces { HasKeptFaces self.now cell.now (dimension_of cell.now) }
