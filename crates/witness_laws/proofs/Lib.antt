@@ -1,0 +1,12 @@
+pub mod Bases
+pub mod Naming
+pub mod Reaching
+pub mod Mapping
+pub mod Showing
+pub mod Texts
+pub mod Telling
+pub mod Numerals
+pub mod Runs
+pub mod OneValue
+pub mod Outcomes
+pub mod Sample
