@@ -1,9 +1,9 @@
-//! Whole runs of the tool on the values of maps.
+//! Whole runs of the tools on maps: their values, and the matrices that they induce.
 use crate::rows::{DONE, Row, all_answer};
 use faults::Status;
 use std::test::Fail;
 
-const FILES: [(&str, &str); 12] = [
+const FILES: [(&str, &str); 16] = [
     ("p", "(0)"),
     ("two", "(0) (1)"),
     ("apart", "(0) (5)"),
@@ -19,6 +19,10 @@ const FILES: [(&str, &str); 12] = [
     ("far", "(0) -> {(0) (7) (9)}"),
     ("split", "(0) -> {(0) (2)}"),
     ("three", "(0) (1) (2)"),
+    ("a", "(-2) (1)"),
+    ("b", "(-4) (-3) (-2) (1) (2) (3)"),
+    ("none", ""),
+    ("same", "(0) -> (0)  (1) -> (1)"),
 ];
 
 const REFUSED: Row = Row {
@@ -52,7 +56,8 @@ const ROWS: [Row; 9] = [
         err: "error: map: (0) -> (7) leaves the range\n",
         ..REFUSED
     },
-    // Two pieces: their vertices differ by no boundary, as the function tells that is 1 on the second piece alone.
+    // Two pieces: their vertices differ by no boundary, as the function tells that is 1 on the
+    // second piece alone.
     Row {
         words: &["chkmvmap", "split", "p", "three"],
         err: "error: map: value at [(0)(0)] is not acyclic in degree 0: cycle 1 * [(0)(0)] + 1 * [(2)(2)], cocycle 1 * [(2)(2)] + 1 * [(3)(3)]\n",
@@ -80,4 +85,43 @@ const ROWS: [Row; 9] = [
 #[test]
 fn values_of_maps_are_tested(rt: HostRuntime) -> Result<(), Fail> {
     all_answer(&rt, rt.alloc(), &FILES, &ROWS)
+}
+
+// The map that doubles, from a line relative to its outer segments: the path through the middle goes
+// once through the middle of the range.
+const INDUCED: [Row; 5] = [
+    Row {
+        words: &[
+            "homcubes", "--map", "double", "x", "a", "y", "b", "--matrix",
+        ],
+        out: "domain\nH_0 = 0\nH_1 = Z_2\nz_1_1 = 1 * [(-1)(0)] + 1 * [(0)(1)]\nrange\nH_0 = 0\nH_1 = Z_2\nz_1_1 = 1 * [(-1)(0)] + 1 * [(0)(1)]\nmap\nF_0 rank 0\nF_1 rank 1\n  1\n",
+        ..DONE
+    },
+    Row {
+        words: &["homcubes", "x", "a", "y", "b", "--map=double", "--mod", "3"],
+        out: "domain\nH_0 = 0\nH_1 = Z_3\nrange\nH_0 = 0\nH_1 = Z_3\nmap\nF_0 rank 0\nF_1 rank 1\n",
+        ..DONE
+    },
+    Row {
+        words: &["homcubes", "--map", "same", "two", "p", "two", "none"],
+        err: "error: map: (0) -> (0) leaves the range's subset\n",
+        ..REFUSED
+    },
+    Row {
+        words: &["homcubes", "--map", "double", "x", "a", "y"],
+        status: Status::Words,
+        err: "error: words: not a form of homcubes\n",
+        ..DONE
+    },
+    Row {
+        words: &["homcubes", "x", "a", "--matrix"],
+        status: Status::Words,
+        err: "error: words: not a form of homcubes\n",
+        ..DONE
+    },
+];
+
+#[test]
+fn matrices_of_maps_are_told(rt: HostRuntime) -> Result<(), Fail> {
+    all_answer(&rt, rt.alloc(), &FILES, &INDUCED)
 }
