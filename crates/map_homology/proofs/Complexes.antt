@@ -30,6 +30,7 @@ use Rattle.cell_complex.proofs.Counting.{relative_cells}
 use Rattle.cell_complex.proofs.ByCell.{bases_are_by_number_or_cell}
 use Rattle.algebraic_reduction.specs.Reduction.{Step, IsUnpaired}
 use Rattle.algebraic_reduction.specs.Laws.{AreStepsOf, NothingLeft}
+use Rattle.acyclic_values.specs.Deciding.{FullReduction}
 use Rattle.acyclic_values.proofs.Deciding.{listed_below}
 use Rattle.acyclic_values.proofs.Reducing.{reductions_exist}
 use Rattle.basis_reports.specs.Counting.{Counts, HasBases, IsNormalBasis}
@@ -117,45 +118,39 @@ pub record PairBases (p n : ℕ) (x a : List (List Factor)) : Type 0 where
   pub cycles : ℕ → ℕ → List Factor → ℕ
   pub bases : (k : ℕ) → k ≤ n → IsBasis p (relative_complex p x a) k (get_or counts k 0) (cycles k)
 
-module _ (p n : ℕ) (x a : List (List Factor)) (is_modulus : IsModulus p) (few : length (cells_of x) < 2 ^ 32) where
-  one : 1 ≤ p
-  one = omega (arith, two_le p is_modulus)
-
-  abbrev cells : List (List Factor)
-  cells = relative_list x a
-
-  abbrev K : ChainComplex
-  K = complex_for p one cells
-
-  relative : IsRelativeComplex p x a cells K
-  relative = record { listing = relative_listing x a; complex = is_complex_for p one cells (omega (arith, shorter (λ q. not (has cell_cmp (cells_of a) q)) (cells_of x), few)) }
-
-  is_complex : IsComplex p K
-  is_complex = numbered_cells_are_complex p x a cells K one relative
-
-  abbrev steps : List Step
-  steps = (reductions_exist p K (is_field p is_modulus) is_complex).steps
-
-  abbrev all : Counted K steps n (length K.boundaries)
-  all = counted K steps n (length K.boundaries)
-
-  has_them : HasBases p K n all.list
-  has_them = has_bases p K steps is_modulus is_complex (reductions_exist p K (is_field p is_modulus) is_complex).made (reductions_exist p K (is_field p is_modulus) is_complex).nothing n (length K.boundaries) all.list refl all.counts
+module _ (p n : ℕ) (x a cells : List (List Factor)) (K : ChainComplex) (is_modulus : IsModulus p) (relative : IsRelativeComplex p x a cells K) (list : List ℕ) (h : HasBases p K n list) where
+  over_cells : (k : ℕ) (zs : List (List (ℕ × ℕ))) → IsNormalBasis p K k zs → get_or list k 0 ≡ length zs → IsBasis p (relative_complex p x a) k (get_or list k 0) (λ i. cell_coefficient (cell_terms cells (get_or zs i [])))
+  over_cells k zs b e = subst (λ (m : ℕ). IsBasis p (relative_complex p x a) k m (λ i. cell_coefficient (cell_terms cells (get_or zs i [])))) (sym e)
+      (((bases_are_by_number_or_cell p x a cells K (omega (arith, two_le p is_modulus)) relative).basis_of_terms k zs
+      (λ i g l past. coefficient-above p 0 (length cells) (get_or zs i []) g (subst (λ (m : ℕ). IsNormalWithin p 0 m (get_or zs i [])) relative.complex.count (b.normal i l)) past)).0 b.basis)
 
   record InDegree (k : ℕ) : Type 0 where
     chains : ℕ → List Factor → ℕ
-    basis : k ≤ n → IsBasis p (relative_complex p x a) k (get_or all.list k 0) chains
+    basis : k ≤ n → IsBasis p (relative_complex p x a) k (get_or list k 0) chains
 
   in_degree : (k : ℕ) → InDegree k
   in_degree k = ⊎_elim
-      (λ l. let h = has_them.each k (omega arith) in record { chains = λ i. cell_coefficient (cell_terms cells (get_or h.0 i [])); basis = λ _. over_cells k h.0 h.1 h.2 })
+      (λ l. let b = h.each k (omega arith) in record { chains = λ i. cell_coefficient (cell_terms cells (get_or b.0 i [])); basis = λ _. over_cells k b.0 b.1 b.2 })
       (λ l. record { chains = λ i q. 0; basis = λ s. absurd (omega arith) })
       (cases_lt k (n + 1))
-    where
-      over_cells : (k : ℕ) (zs : List (List (ℕ × ℕ))) → IsNormalBasis p K k zs → get_or all.list k 0 ≡ length zs → IsBasis p (relative_complex p x a) k (get_or all.list k 0) (λ i. cell_coefficient (cell_terms cells (get_or zs i [])))
-      over_cells k zs h e = subst (λ (m : ℕ). IsBasis p (relative_complex p x a) k m (λ i. cell_coefficient (cell_terms cells (get_or zs i [])))) (sym e)
-          (((bases_are_by_number_or_cell p x a cells K one relative).basis_of_terms k zs
-          (λ i g l past. coefficient-above p 0 (length cells) (get_or zs i []) g (subst (λ (m : ℕ). IsNormalWithin p 0 m (get_or zs i [])) relative.complex.count (h.normal i l)) past)).0 h.basis)
 
-  pub pair_bases : PairBases p n x a
-  pair_bases = record { counts = all.list; cycles = λ k. (in_degree k).chains; bases = λ k l. (in_degree k).basis l }
+  bases_over_cells : PairBases p n x a
+  bases_over_cells = record { counts = list; cycles = λ k. (in_degree k).chains; bases = λ k l. (in_degree k).basis l }
+
+bases_of_steps : (p n : ℕ) (x a cells : List (List Factor)) (K : ChainComplex) → IsModulus p → IsRelativeComplex p x a cells K → IsComplex p K → (r : FullReduction p K) → PairBases p n x a
+bases_of_steps p n x a cells K is_modulus relative is_complex r =
+    let c = counted K r.steps n (length K.boundaries) in
+    bases_over_cells p n x a cells K is_modulus relative c.list (has_bases p K r.steps is_modulus is_complex r.made r.nothing n (length K.boundaries) c.list refl c.counts)
+
+bases_of_complex : (p n : ℕ) (x a cells : List (List Factor)) (K : ChainComplex) → IsModulus p → IsRelativeComplex p x a cells K → PairBases p n x a
+bases_of_complex p n x a cells K is_modulus relative =
+    let is_complex = numbered_cells_are_complex p x a cells K (omega (arith, two_le p is_modulus)) relative in
+    bases_of_steps p n x a cells K is_modulus relative is_complex (reductions_exist p K (is_field p is_modulus) is_complex)
+
+pub pair_bases : (p n : ℕ) (x a : List (List Factor)) → IsModulus p → length (cells_of x) < 2 ^ 32 → PairBases p n x a
+pair_bases p n x a is_modulus few =
+    let one : 1 ≤ p = omega (arith, two_le p is_modulus) in
+    bases_of_complex p n x a (relative_list x a) (complex_for p one (relative_list x a)) is_modulus (record {
+      listing = relative_listing x a;
+      complex = is_complex_for p one (relative_list x a) (omega (arith, shorter (λ q. not (has cell_cmp (cells_of a) q)) (cells_of x), few));
+    })

@@ -1,6 +1,6 @@
 -- The matrices, with the ranks and the cycles beside them, are right.
 use Rattle.std.proofs.Common.{◌≡◌, ◌⊎◌, ⊎_elim, ℕ, ◌+◌, ◌*◌, ◌<◌, ◌≤◌, sym, ap, ◌∙◌, arith, subst, List, [], length, get_or, map}
-use Rattle.std.proofs.lemmas.List.{length-map}
+use Rattle.std.proofs.lemmas.List.{length-map, get_or_default}
 use Rattle.field_mod.specs.Sums.{total}
 use Rattle.field_mod.specs.Modular.{Same}
 use Rattle.field_mod.specs.Moduli.{IsModulus}
@@ -11,7 +11,8 @@ use Rattle.chains.specs.Homology.{combination}
 use Rattle.cell_complex.specs.RelativeComplex.{relative_complex}
 use Rattle.cell_complex.specs.Numbering.{cell_terms}
 use Rattle.cube_maps.specs.CubeMaps.{Naming}
-use Rattle.acyclic_values.specs.CarriedMaps.{IsCarriedMap, IsInducedMatrix, IsTogether, GoesInto, IsAcyclicMap}
+use Rattle.cube_sets.specs.Closures.{cells_of}
+use Rattle.acyclic_values.specs.CarriedMaps.{image, IsCarriedMap, IsInducedMatrix, IsTogether, GoesInto, IsAcyclicMap}
 use Rattle.acyclic_values.proofs.Carried.{carried_maps_exist}
 use Rattle.map_checks.specs.Carriers.{Carrying}
 use Rattle.map_checks.specs.Faults.{together}
@@ -21,7 +22,7 @@ use Rattle.leray_conley.specs.Tables.{Table, entry}
 use Rattle.leray_conley.specs.Products.{product}
 use Rattle.leray_conley.specs.Ranks.{IsRank}
 use Rattle.induced_map.specs.Pairs.{nth_by_cell}
-use Rattle.induced_map.specs.Matrices.{IsPairOfBasis, ArePairsOfMap, IsInduced, IsMatrixOf, nth}
+use Rattle.induced_map.specs.Matrices.{IsPairOfBasis, ArePairsOfMap, IsInduced, IsMatrixOf, none, nth}
 use Rattle.basis_reports.specs.ByDegree.{AreByDegree}
 use Rattle.pair_maps.specs.declared.inputs.PairMap.{PairMap}
 use Rattle.pair_maps.specs.Inputs.{domain_of, range_of, dimension_of_map}
@@ -53,9 +54,13 @@ same_induced p map domain range y b k columns zs rows ws e f same h g carried j 
     record {
       filling = s.filling;
       chain = s.chain;
-      differs = λ q on. subst (λ (n : ℕ). Same p _ (n + (relative_complex p y b).boundary s.filling q))
+      differs = λ q on. subst (λ (n : ℕ). Same p (image (cells_of domain) g (zs j) q) (n + (relative_complex p y b).boundary s.filling q))
           (total-same rows (λ i. e i j * ws i q) (λ i. f i j * ws i q) (λ i m. ap (λ n. n * ws i q) (sym (same i j m l)))) (s.differs q on);
     }
+
+-- the rank of a matrix that stands in a list
+pub rank_there : (p : ℕ) (all : List Table) (i : ℕ) (table : Table) (rank : ℕ) → i < length all → table ≡ get_or all i table → IsRankOf p table rank → IsRankOf p (nth all i) rank
+rank_there p all i table rank l e h = subst (λ (t : Table). IsRankOf p t rank) (e ∙ get_or_default all i table none l) h
 
 -- ---- the pairs
 
@@ -102,12 +107,12 @@ module _ (p : ℕ) (m : PairMap) (c : Carrying) (domain : PairCells) (A : Cycles
 
     right_matrix : IsRightMatrix p m k (domain_cycles k) (range_cycles k) rank rows
     right_matrix = record {
-      rows = are.count ∙ rows_are;
-      columns = λ i l. (are.each i (omega (arith, rows_are, l))).count ∙ columns_are;
+      row_count = are.count ∙ rows_are;
+      column_count = λ i l. (are.each i (omega (arith, rows_are, l))).count ∙ columns_are;
       reduced = λ i j li lj. (entries_are i j li lj).1;
       induced = same_induced p m.map.named (domain_of m) (range_of m) m.y.cells m.b.cells k (length (domain_cycles k)) (nth_cycle (domain_cycles k)) (length (range_cycles k)) (nth_cycle (range_cycles k)) (entry table) (entry_of rows)
           (λ i j li lj. (entries_are i j li lj).0) in_cycles;
-      rank = same_ranks p (length (range_cycles k)) (length (domain_cycles k)) (entry table) (entry_of rows) rank (λ i j li lj. (entries_are i j li lj).0)
+      is_rank = same_ranks p (length (range_cycles k)) (length (domain_cycles k)) (entry table) (entry_of rows) rank (λ i j li lj. (entries_are i j li lj).0)
           (subst (λ (n : ℕ). IsRank p n (length (domain_cycles k)) (entry table) rank) rows_are
           (subst (λ (n : ℕ). IsRank p table.rows n (entry table) rank) columns_are is_rank));
     }

@@ -1,10 +1,11 @@
 -- Whether some matrix has too many entries.
-use Rattle.std.proofs.Common.{◌≡◌, ℕ, zero, suc, ◌+◌, ◌*◌, ◌<◌, ◌≤◌, ◌⊎◌, inl, inr, ⊎_elim, sym, ap, ◌∙◌, arith, subst, length, get_or}
+use Rattle.std.proofs.Common.{◌≡◌, ℕ, zero, suc, ◌+◌, ◌*◌, ◌<◌, ◌≤◌, ◌⊎◌, inl, inr, ⊎_elim, sym, ap, ◌∙◌, arith, subst, length, get_or, map}
 use Rattle.std.proofs.lemmas.Bool.{cases_lt}
 use Rattle.field_mod.specs.Moduli.{IsModulus}
 use Rattle.field_mod.proofs.Table.{is_field}
 use Rattle.chains.proofs.Exchange.{one_length}
 use Rattle.cell_complex.specs.RelativeComplex.{relative_complex}
+use Rattle.cell_complex.specs.Numbering.{cell_terms}
 use Rattle.cell_complex.proofs.Squares.{relative_complexes_are_complexes}
 use Rattle.homology_basis.specs.Bases.{BasisOfLog, CyclesOfLog, in_degree}
 use Rattle.induced_map.specs.Matrices.{HaveFewEntries, IsFirstTooLarge, entries_in}
@@ -13,6 +14,7 @@ use Rattle.pair_maps.specs.declared.inputs.PairMap.{PairMap}
 use Rattle.pair_maps.specs.Inputs.{dimension_of_map}
 use Rattle.map_homology.specs.declared.bases.PairCells.{PairCells}
 use Rattle.map_homology.specs.Bases.{AreBasesOf, cycles_alone}
+use Rattle.map_homology.specs.Right.{nth_cycle}
 use Rattle.map_homology.specs.Refusals.{most_entries, HasLargeMatrix}
 use Rattle.map_homology.proofs.Basing.{right_in_degree, as_many}
 use Rattle.map_homology.proofs.Complexes.{PairBases}
@@ -61,13 +63,13 @@ module _ (p : ℕ) (m : PairMap) (is_modulus : IsModulus p) where
         record {
           degree = k;
           within = subst (λ (n : ℕ). k ≤ n) h.carrier.dimension first.within;
-          columns = _;
-          rows = _;
-          zs = _;
-          ws = _;
+          columns = length (map (cell_terms domain.cells) (in_degree A.cycles k));
+          rows = length (map (cell_terms range.cells) (in_degree B.cycles k));
+          zs = nth_cycle (map (cell_terms domain.cells) (in_degree A.cycles k));
+          ws = nth_cycle (map (cell_terms range.cells) (in_degree B.cycles k));
           domain = z.basis;
           range = w.basis;
-          large = subst (λ (n : ℕ). most_entries < n) (ap (λ n. n * length (in_degree A.cycles k)) w.number ∙ ap (λ n. _ * n) z.number) first.here;
+          large = subst (λ (n : ℕ). most_entries < n) (ap (λ n. n * length (in_degree A.cycles k)) w.number ∙ ap (λ n. length (map (cell_terms range.cells) (in_degree B.cycles k)) * n) z.number) first.here;
         }
 
     -- and those that have not show that none is

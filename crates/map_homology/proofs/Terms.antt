@@ -59,7 +59,7 @@ module _ (test : List Factor → Bool) (cells : List (List Factor)) (l : IsListi
   terms_away q off [] none = refl
   terms_away q off (t ∷ ts) none =
       ap (λ v. v + cell_coefficient (cell_terms cells ts) q) (other_cell t q (first_zero t ts none) (λ inside e. true≢false (sym (listed test cells l t.0 inside) ∙ ap test e ∙ off)))
-      ∙ terms_away q off ts (rest_inside t ts none)
+      ∙ ap (λ v. 0 + v) (terms_away q off ts (rest_inside t ts none))
 
   pub terms_by_cell : (ts : List (ℕ × ℕ)) → IsInside ts → (q : List Factor) → cell_coefficient (cell_terms cells ts) q ≡ by_cell cells (coefficient ts) q
   terms_by_cell ts none q = ⊎_elim

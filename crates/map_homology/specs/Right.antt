@@ -27,12 +27,12 @@ pub record IsRightPart (p n : ℕ) (x a : List (List Factor)) (part : PairReport
 -- the pair of the domain and the cycles ws of that of the range; and the rank is its rank
 pub record IsRightMatrix (p : ℕ) (m : PairMap) (k : ℕ) (zs ws : List (List (List Factor × ℕ)))
     (rank : ℕ) (rows : List (List ℕ)) : Type 0 where
-  pub rows : length rows ≡ length ws
-  pub columns : (i : ℕ) → i < length ws → length (slice_index_or rows i []) ≡ length zs
+  pub row_count : length rows ≡ length ws
+  pub column_count : (i : ℕ) → i < length ws → length (slice_index_or rows i []) ≡ length zs
   pub reduced : (i j : ℕ) → i < length ws → j < length zs → entry_of rows i j < p
   pub induced : IsInducedMatrix p m.map.named (domain_of m) (range_of m) m.y.cells m.b.cells k
       (length zs) (nth_cycle zs) (length ws) (nth_cycle ws) (entry_of rows)
-  pub rank : IsRank p (length ws) (length zs) (entry_of rows) rank
+  pub is_rank : IsRank p (length ws) (length zs) (entry_of rows) rank
 
 -- The report on the map m is right modulo p: both pairs are right, some chain map is carried, and by
 -- degree from 0 to the dimension of the map the matrices are those of every one that is, in the

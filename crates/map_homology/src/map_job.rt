@@ -5,7 +5,8 @@ ghost use Rattle.loading.specs.Jobs.{Computes, Answers, IsAllowed};
 ghost use Rattle.pair_maps.specs.Inputs.{IsFitting};
 ghost use Rattle.pair_maps.specs.Moduli.{modulus_of};
 ghost use Rattle.map_homology.specs.Right.{IsRightMap};
-ghost use Rattle.map_homology.specs.Jobs.{map_job, shown_of, RefusesMapHomology, IsMapText};
+ghost use Rattle.map_homology.specs.Refusals.{RefusesMapHomology};
+ghost use Rattle.map_homology.specs.Jobs.{map_job, shown_of, IsMapText};
 
 use crate::reporting::report_over;
 use basis_reports::Modulus;

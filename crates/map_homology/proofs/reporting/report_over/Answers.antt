@@ -1,18 +1,56 @@
-use Rattle.std.proofs.Common.{arith, inl, inr, ap, sym, ◌∙◌, subst, ℕ}
+use Rattle.std.proofs.Common.{◌≡◌, inl, inr, ℕ, arith, subst}
 use Rattle.std.proofs.lemmas.Result.{err_from_is_err_and}
-use Rattle.induced_map.specs.Matrices.{HaveFewEntries}
+use Rattle.induced_map.specs.Matrices.{HaveFewEntries, IsFirstTooLarge}
 use Rattle.pair_maps.proofs.Cells.{count_together}
-use Rattle.map_homology.specs.Bases.{AreBasesOf}
 use Rattle.map_homology.proofs.Judging.{allowed}
 use Rattle.map_homology.proofs.Large.{shown_large, none_large}
 use Rattle.map_homology.proofs.reporting.report_over.Goals as goal
 
-pub domain_basis-requires-clause-few : goal.domain_basis-requires-clause-few
-domain_basis-requires-clause-few g c =
+pub domain_basis-requires : goal.domain_basis-requires
+domain_basis-requires g c =
     let m = c.args.input.now in
-    omega (arith, count_together m.x.cells m.a.cells, c.in_ok-carrier.ensures.carrier.few.domain)
+    ((omega arith), ((omega arith), (omega (arith, count_together m.x.cells m.a.cells, c.in_ok-carrier.ensures.carrier.few.domain))))
 
-pub range_basis-requires-clause-few : goal.range_basis-requires-clause-few
-range_basis-requires-clause-few g c =
+pub range_basis-requires : goal.range_basis-requires
+range_basis-requires g c =
     let m = c.args.input.now in
-    omega (arith, count_together m.y.cells m.b.cells, c.in_ok-carrier.ensures.carrier.few.range)
+    ((omega arith), ((omega arith), (omega (arith, count_together m.y.cells m.b.cells, c.in_ok-carrier.ensures.carrier.few.range))))
+
+pub report_of-requires : goal.report_of-requires
+report_of-requires g c =
+    let few = subst (λ (n : ℕ). HaveFewEntries c.in_ok-domain.cycles c.in_ok-range.basis n) c.dimension.ensures.dimension c.in_ok-test_entries.ensures.few in
+    ((omega arith), ((omega arith), ((omega arith), ((omega arith), (
+      record {
+        map = c.args.input.now;
+        bases = record { carrier = c.in_ok-carrier.ensures.carrier; of_domain = c.in_ok-domain.ensures.basis; of_range = c.in_ok-range.ensures.basis };
+      },
+      few,
+    )))))
+
+pub returns-in_err-range-clause-fault : goal.returns-in_err-range-clause-fault
+returns-in_err-range-clause-fault g c =
+    let p = err_from_is_err_and c.from_residual-in_err-range.result c.from_residual-in_err-range.ensures.1 in
+    rw (p.1, p.2) (inr c.in_err-range.ensures.fault)
+
+pub returns-in_err-test_entries-clause-fault : goal.returns-in_err-test_entries-clause-fault
+returns-in_err-test_entries-clause-fault g c =
+    let large = c.in_err-test_entries.ensures.large in
+    let first = subst (λ (n : ℕ). IsFirstTooLarge c.in_ok-domain.cycles c.in_ok-range.basis n large.0) c.dimension.ensures.dimension large.1 in
+    let p = err_from_is_err_and c.from_residual-in_err-test_entries.result c.from_residual-in_err-test_entries.ensures.1 in
+    rw (p.1, p.2) (inl (inr (
+      c.in_ok-carrier.ensures.allowed,
+      shown_large g.row.P c.args.input.now c.args.field.listed c.in_ok-carrier.carrier c.in_ok-domain.domain c.in_ok-domain.cycles c.in_ok-range.range c.in_ok-range.basis
+          (record { carrier = c.in_ok-carrier.ensures.carrier; of_domain = c.in_ok-domain.ensures.basis; of_range = c.in_ok-range.ensures.basis }) large.0 first,
+      c.in_err-test_entries.ensures.fault,
+    )))
+
+pub returns-clause-right : goal.returns-clause-right
+returns-clause-right g c =
+    c.in_ok-report.ensures c.args.input.now (record { carrier = c.in_ok-carrier.ensures.carrier; of_domain = c.in_ok-domain.ensures.basis; of_range = c.in_ok-range.ensures.basis })
+
+pub returns-clause-allowed : goal.returns-clause-allowed
+returns-clause-allowed g c =
+    let few = subst (λ (n : ℕ). HaveFewEntries c.in_ok-domain.cycles c.in_ok-range.basis n) c.dimension.ensures.dimension c.in_ok-test_entries.ensures.few in
+    allowed g.row.P c.args.input.now c.in_ok-carrier.ensures.allowed
+    (none_large g.row.P c.args.input.now c.args.field.listed c.in_ok-carrier.carrier c.in_ok-domain.domain c.in_ok-domain.cycles c.in_ok-range.range c.in_ok-range.basis
+    (record { carrier = c.in_ok-carrier.ensures.carrier; of_domain = c.in_ok-domain.ensures.basis; of_range = c.in_ok-range.ensures.basis }) few)
