@@ -10,7 +10,8 @@ use induced_map::first_too_large;
 // The most entries that a matrix may have.
 const MATRIX_ENTRIES: u64 = 16_777_216;
 
-/// Nothing where no matrix of a degree up to a last one would have too many entries, else the limit.
+/// Nothing where no matrix of a degree up to a last one would have too many entries, else the
+/// limit.
 pub(crate) fn test_entries<const P: u16>(
     domain: &CycleBasis<P>,
     range: &Basis<P>,

@@ -18,14 +18,25 @@ range_basis-requires g c =
 
 pub report_of-requires : goal.report_of-requires
 report_of-requires g c =
-    let few = subst (λ (n : ℕ). HaveFewEntries c.in_ok-domain.cycles c.in_ok-range.basis n) c.dimension.ensures.dimension c.in_ok-test_entries.ensures.few in
-    ((omega arith), ((omega arith), ((omega arith), ((omega arith), (
-      record {
-        map = c.args.input.now;
-        bases = record { carrier = c.in_ok-carrier.ensures.carrier; of_domain = c.in_ok-domain.ensures.basis; of_range = c.in_ok-range.ensures.basis };
-      },
-      few,
-    )))))
+    let few = subst (λ (n : ℕ). HaveFewEntries c.in_ok-domain.cycles c.in_ok-range.basis n) c.dimension.ensures.dimension c.in_ok-test_entries.ensures.few in (
+      (omega arith),
+      (
+        (omega arith),
+        (
+          (omega arith),
+          (
+            (omega arith),
+            (
+              record {
+                map = c.args.input.now;
+                bases = record { carrier = c.in_ok-carrier.ensures.carrier; of_domain = c.in_ok-domain.ensures.basis; of_range = c.in_ok-range.ensures.basis };
+              },
+              few,
+            ),
+          ),
+        ),
+      ),
+    )
 
 pub returns-in_err-range-clause-fault : goal.returns-in_err-range-clause-fault
 returns-in_err-range-clause-fault g c =
