@@ -10,10 +10,15 @@ use Rattle.report.specs.declared.reports.Shown.{Shown}
 use Rattle.report.specs.ReportText.{report_text}
 use Rattle.pair_maps.specs.declared.inputs.PairMap.{PairMap}
 use Rattle.pair_maps.specs.Moduli.{modulus_of}
+use Rattle.pair_maps.specs.Refusals.{RefusesPairMap}
 use Rattle.pair_maps.proofs.Moduli.{of_table}
 use Rattle.map_homology.specs.Right.{IsRightMap}
 use Rattle.map_homology.specs.Refusals.{RefusesMapHomology}
 use Rattle.map_homology.specs.Jobs.{IsMapText}
+
+-- what refuses a map of pairs refuses it here
+pub pair_refused : (p : ℕ) (m : PairMap) (fault : Fault) → RefusesPairMap p m fault ⊎ (fault ≡ OutOfMemory) → RefusesMapHomology p m fault ⊎ (fault ≡ OutOfMemory)
+pair_refused p m fault r = ⊎_elim (λ l. inl (inl l)) (λ e. inr e) r
 
 pub map_refused : (p : ℕ) (shown : Shown) (m : PairMap) (fault : Fault) → IsModulus p → RefusesMapHomology p m fault ⊎ (fault ≡ OutOfMemory) → Computes (RefusesMapHomology (modulus_of p)) (IsMapText shown) m (Err fault)
 map_refused p shown m fault h r = record {

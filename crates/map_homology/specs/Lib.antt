@@ -4,4 +4,5 @@ pub mod Filled
 pub mod Tables
 pub mod Right
 pub mod Refusals
+pub mod Reported
 pub mod Jobs

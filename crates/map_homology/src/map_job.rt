@@ -1,11 +1,11 @@
 //! The tool `homcubes --map`: the map that a map of pairs induces in homology.
-ghost use Rattle.std.specs.Prelude.{◌≡◌, ◌⊎◌, IfOk, IfErr, OnOk};
+ghost use Rattle.std.specs.Prelude.{◌≡◌};
 ghost use Rattle.field_mod.specs.Moduli.{IsModulus};
-ghost use Rattle.loading.specs.Jobs.{Computes, Answers, IsAllowed};
+ghost use Rattle.loading.specs.Jobs.{Computes, Answers};
 ghost use Rattle.pair_maps.specs.Inputs.{IsFitting};
 ghost use Rattle.pair_maps.specs.Moduli.{modulus_of};
-ghost use Rattle.map_homology.specs.Right.{IsRightMap};
 ghost use Rattle.map_homology.specs.Refusals.{RefusesMapHomology};
+ghost use Rattle.map_homology.specs.Reported.{IsReported};
 ghost use Rattle.map_homology.specs.Jobs.{map_job, shown_of, IsMapText};
 
 use crate::reporting::report_over;
@@ -75,10 +75,7 @@ fn compute(alloc: Global, job: &MapJob, input: &PairMap) -> Result<Answer, Fault
 fn map_report(alloc: Global, modulus: Modulus, input: &PairMap) -> Result<MapReport, Fault>
     requires { IsFitting input.now }
     ensures table { IsModulus modulus }
-    ensures right { IfOk result (IsRightMap modulus input.now) }
-    ensures allowed { OnOk result (IsAllowed (RefusesMapHomology modulus) input.now) }
-    ensures fault { IfErr result
-        (λ fault. RefusesMapHomology modulus input.now fault ⊎ (fault ≡ Fault.OutOfMemory)) }
+    ensures reported { IsReported modulus input.now result }
 {
     by_modulus!(modulus.number(), field => report_over(alloc, field, input))
 }

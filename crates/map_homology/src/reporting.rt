@@ -1,12 +1,11 @@
 //! The report on a map of pairs.
-ghost use Rattle.std.specs.Prelude.{◌≡◌, ◌⊎◌, IfOk, IfErr, OnOk};
-ghost use Rattle.loading.specs.Jobs.{IsAllowed};
+ghost use Rattle.std.specs.Prelude.{IfOk};
 ghost use Rattle.pair_maps.specs.declared.inputs.PairMap.{PairMap as PairMaps};
 ghost use Rattle.pair_maps.specs.Inputs.{IsFitting};
 ghost use Rattle.induced_map.specs.Matrices.{HaveFewEntries};
 ghost use Rattle.map_homology.specs.Bases.{AreBasesOf, AreBasesOfMap};
 ghost use Rattle.map_homology.specs.Right.{IsRightMap};
-ghost use Rattle.map_homology.specs.Refusals.{RefusesMapHomology};
+ghost use Rattle.map_homology.specs.Reported.{IsReported};
 
 use crate::bases::{PairCells, domain_basis, range_basis};
 use crate::entries::test_entries;
@@ -29,10 +28,7 @@ pub(crate) fn report_over<const P: u16>(
     input: &PairMap,
 ) -> Result<MapReport, Fault>
     requires { IsFitting input.now }
-    ensures right { IfOk result (IsRightMap P input.now) }
-    ensures allowed { OnOk result (IsAllowed (RefusesMapHomology P) input.now) }
-    ensures fault { IfErr result
-        (λ fault. RefusesMapHomology P input.now fault ⊎ (fault ≡ Fault.OutOfMemory)) }
+    ensures { IsReported P input.now result }
 {
     let carrier = carrier_of(alloc, field, input)?;
     let (domain, cycles) = domain_basis(alloc, field, &input.x, &input.a)?;

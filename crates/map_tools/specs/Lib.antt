@@ -1,2 +1,3 @@
 -- What the tool on the values of maps is asked to do.
+pub mod Counted
 pub mod Jobs

@@ -1,11 +1,11 @@
 //! The tool `chkmvmap`: whether the values of a map at all cells of its domain are acyclic.
-ghost use Rattle.std.specs.Prelude.{◌≡◌, ◌⊎◌, IfOk, IfErr, OnOk};
+ghost use Rattle.std.specs.Prelude.{◌≡◌, IfOk, IfErr};
 ghost use Rattle.field_mod.specs.Moduli.{IsModulus};
-ghost use Rattle.cell_complex.specs.CellCount.{cell_count};
-ghost use Rattle.loading.specs.Jobs.{Computes, Answers, IsAllowed};
-ghost use Rattle.pair_maps.specs.Inputs.{IsFitting, domain_of};
+ghost use Rattle.loading.specs.Jobs.{Computes, Answers};
+ghost use Rattle.pair_maps.specs.Inputs.{IsFitting};
 ghost use Rattle.pair_maps.specs.Moduli.{modulus_of};
 ghost use Rattle.pair_maps.specs.Refusals.{RefusesPairMap};
+ghost use Rattle.map_tools.specs.Counted.{IsCounted};
 ghost use Rattle.map_tools.specs.Jobs.{values_job, values_text, IsValuesText};
 
 use crate::values_job::ValuesJob;
@@ -50,10 +50,7 @@ fn answer(alloc: Global, count: u32) -> Result<Answer, Fault>
 fn acyclic_cells(alloc: Global, modulus: Modulus, input: &PairMap) -> Result<u32, Fault>
     requires { IsFitting input.now }
     ensures table { IsModulus modulus }
-    ensures count { IfOk result (λ count. count ≡ cell_count (domain_of input.now)) }
-    ensures allowed { OnOk result (IsAllowed (RefusesPairMap modulus) input.now) }
-    ensures fault { IfErr result
-        (λ fault. RefusesPairMap modulus input.now fault ⊎ (fault ≡ Fault.OutOfMemory)) }
+    ensures counted { IsCounted modulus input.now result }
 {
     by_modulus!(modulus.number(), field => acyclic_cells_over(alloc, field, input))
 }
@@ -65,10 +62,7 @@ fn acyclic_cells_over<const P: u16>(
     input: &PairMap,
 ) -> Result<u32, Fault>
     requires { IsFitting input.now }
-    ensures count { IfOk result (λ count. count ≡ cell_count (domain_of input.now)) }
-    ensures allowed { OnOk result (IsAllowed (RefusesPairMap P) input.now) }
-    ensures fault { IfErr result
-        (λ fault. RefusesPairMap P input.now fault ⊎ (fault ≡ Fault.OutOfMemory)) }
+    ensures { IsCounted P input.now result }
 {
     let carrier = carrier_of(alloc, field, input)?;
     Ok(carrier.domain_cells().len())

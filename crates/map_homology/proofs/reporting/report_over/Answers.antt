@@ -1,7 +1,8 @@
-use Rattle.std.proofs.Common.{◌≡◌, inl, inr, ℕ, arith, subst}
+use Rattle.std.proofs.Common.{◌≡◌, inl, inr, refl, ℕ, arith, subst}
 use Rattle.std.proofs.lemmas.Result.{err_from_is_err_and}
 use Rattle.induced_map.specs.Matrices.{HaveFewEntries, IsFirstTooLarge}
 use Rattle.pair_maps.proofs.Cells.{count_together}
+use Rattle.map_homology.proofs.Computing.{pair_refused}
 use Rattle.map_homology.proofs.Judging.{allowed}
 use Rattle.map_homology.proofs.Large.{shown_large, none_large}
 use Rattle.map_homology.proofs.reporting.report_over.Goals as goal
@@ -38,13 +39,23 @@ report_of-requires g c =
       ),
     )
 
-pub returns-in_err-range-clause-fault : goal.returns-in_err-range-clause-fault
-returns-in_err-range-clause-fault g c =
+pub returns-in_err-carrier : goal.returns-in_err-carrier
+returns-in_err-carrier g c =
+    let p = err_from_is_err_and c.from_residual.result c.from_residual.ensures.1 in
+    rw (p.1, p.2) (pair_refused g.row.P c.args.input.now c.in_err-carrier.field-0.0 c.in_err-carrier.ensures.fault)
+
+pub returns-in_err-domain : goal.returns-in_err-domain
+returns-in_err-domain g c =
+    let p = err_from_is_err_and c.from_residual-in_err-domain.result c.from_residual-in_err-domain.ensures.1 in
+    rw (p.1, p.2) (inr c.in_err-domain.ensures.fault)
+
+pub returns-in_err-range : goal.returns-in_err-range
+returns-in_err-range g c =
     let p = err_from_is_err_and c.from_residual-in_err-range.result c.from_residual-in_err-range.ensures.1 in
     rw (p.1, p.2) (inr c.in_err-range.ensures.fault)
 
-pub returns-in_err-test_entries-clause-fault : goal.returns-in_err-test_entries-clause-fault
-returns-in_err-test_entries-clause-fault g c =
+pub returns-in_err-test_entries : goal.returns-in_err-test_entries
+returns-in_err-test_entries g c =
     let large = c.in_err-test_entries.ensures.large in
     let first = subst (λ (n : ℕ). IsFirstTooLarge c.in_ok-domain.cycles c.in_ok-range.basis n large.0) c.dimension.ensures.dimension large.1 in
     let p = err_from_is_err_and c.from_residual-in_err-test_entries.result c.from_residual-in_err-test_entries.ensures.1 in
@@ -55,13 +66,17 @@ returns-in_err-test_entries-clause-fault g c =
       c.in_err-test_entries.ensures.fault,
     )))
 
-pub returns-clause-right : goal.returns-clause-right
-returns-clause-right g c =
-    c.in_ok-report.ensures c.args.input.now (record { carrier = c.in_ok-carrier.ensures.carrier; of_domain = c.in_ok-domain.ensures.basis; of_range = c.in_ok-range.ensures.basis })
+pub returns-in_err-report : goal.returns-in_err-report
+returns-in_err-report g c =
+    let p = err_from_is_err_and c.from_residual-in_err-report.result c.from_residual-in_err-report.ensures.1 in
+    rw (p.1, p.2) (inr refl)
 
-pub returns-clause-allowed : goal.returns-clause-allowed
-returns-clause-allowed g c =
+pub returns : goal.returns
+returns g c =
     let few = subst (λ (n : ℕ). HaveFewEntries c.in_ok-domain.cycles c.in_ok-range.basis n) c.dimension.ensures.dimension c.in_ok-test_entries.ensures.few in
-    allowed g.row.P c.args.input.now c.in_ok-carrier.ensures.allowed
-    (none_large g.row.P c.args.input.now c.args.field.listed c.in_ok-carrier.carrier c.in_ok-domain.domain c.in_ok-domain.cycles c.in_ok-range.range c.in_ok-range.basis
-    (record { carrier = c.in_ok-carrier.ensures.carrier; of_domain = c.in_ok-domain.ensures.basis; of_range = c.in_ok-range.ensures.basis }) few)
+    (
+      c.in_ok-report.ensures c.args.input.now (record { carrier = c.in_ok-carrier.ensures.carrier; of_domain = c.in_ok-domain.ensures.basis; of_range = c.in_ok-range.ensures.basis }),
+      allowed g.row.P c.args.input.now c.in_ok-carrier.ensures.allowed
+          (none_large g.row.P c.args.input.now c.args.field.listed c.in_ok-carrier.carrier c.in_ok-domain.domain c.in_ok-domain.cycles c.in_ok-range.range c.in_ok-range.basis
+          (record { carrier = c.in_ok-carrier.ensures.carrier; of_domain = c.in_ok-domain.ensures.basis; of_range = c.in_ok-range.ensures.basis }) few),
+    )
