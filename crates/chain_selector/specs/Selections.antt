@@ -1,5 +1,5 @@
--- Kept images: right images of some cells of the domain and of their faces.
-use Rattle.std.specs.Prelude.{◌≡◌, ℕ, ◌<◌, ◌≤◌, List, [], length, slice_index_or, Option, Some, None, Bool, true, false}
+-- What a selector keeps: right images of some cells of the domain and of their faces.
+use Rattle.std.specs.Prelude.{◌≡◌, ℕ, ◌<◌, ◌≤◌, List, [], length, map, slice_index_or, Option, Some, None, Bool, true, false}
 use Rattle.field_mod.specs.Modular.{Same}
 use Rattle.elem_cubes.specs.Cells.{Factor}
 use Rattle.elem_cubes.specs.Laws.{cell_at}
