@@ -1,1 +1,4 @@
 pub mod Products
+pub mod Restricting
+pub mod Entering
+pub mod Making

@@ -1,0 +1,83 @@
+-- Restricted images: of one chain, and of one more.
+use Rattle.std.proofs.Common.{◌≡◌, ℕ, ◌+◌, ◌*◌, ◌<◌, ◌≤◌, sym, ap, ◌∙◌, subst, arith, ⊎_elim, List, [], ◌∷◌, ◌++◌, length, get_or, true}
+use Rattle.std.specs.Prelude.{◌^◌}
+use Rattle.std.proofs.lemmas.Bool.{cases_lt, le-ltb}
+use Rattle.std.proofs.lemmas.List.{get_or_append_left, get_or_push, length_push}
+use Rattle.field_mod.specs.Modular.{Same}
+use Rattle.field_mod.proofs.Sums.{total_same}
+use Rattle.field_mod.proofs.Modular.{same_refl, same_trans, same-mul}
+use Rattle.elem_cubes.specs.Cells.{Factor}
+use Rattle.elem_cubes.specs.Laws.{cell_at}
+use Rattle.elem_cubes.proofs.Modular.{exact}
+use Rattle.chains.specs.Terms.{coefficient}
+use Rattle.chains.proofs.TermLists.{coefficient-lt}
+use Rattle.algebraic_reduction.proofs.Residues.{same_zero}
+use Rattle.cube_sets.specs.Closures.{is_cell_of}
+use Rattle.cell_complex.specs.Numbering.{by_cell, number_of}
+use Rattle.cell_complex.proofs.Numbering.{number_within, at_number}
+use Rattle.acyclic_values.specs.CarriedMaps.{image}
+use Rattle.acyclic_values.proofs.Cells.{cells_listing}
+use Rattle.homology_basis.specs.Bases.{CyclesOfLog, in_degree, IsBasisByCycles}
+use Rattle.map_checks.specs.Carriers.{Carrying}
+use Rattle.chain_selector.specs.Selections.{Selection, IsSelection, IsOfOneMap, IsImageOf, AreKept, domain_cells, range_cells, kept_image}
+use Rattle.chain_selector.specs.Renumbered.{IsRenumbered}
+use Rattle.chain_selector.proofs.OtherNumbers.{by_cell-at}
+use Rattle.chain_selector.proofs.OneMap.{sums_are_of_one_map}
+use Rattle.chain_selector.proofs.Summing.{number_is}
+use Rattle.induced_map.specs.Within.{AreCellsOf, AreWithin}
+use Rattle.induced_map.specs.Images.{IsRestrictedImage, AreRestrictedImages}
+
+-- ---- one chain
+
+module _ (p : ℕ) (s : Selection) (sel : IsSelection p s) where
+  abbrev ds : List (List Factor)
+  ds = domain_cells s
+
+  abbrev rs : List (List Factor)
+  rs = range_cells s
+
+  -- the chain cs by numbers of dc, the same by those of the domain, its image, and the restriction
+  -- of that to the cells rc
+  pub restricted : (dc rc : List (List Factor)) (cs cycle im ts : List (ℕ × ℕ)) → IsOfOneMap p s → AreKept s cycle → AreCellsOf s.carrying.range rc
+      → IsRenumbered p dc ds cs cycle → IsImageOf p s cycle im → IsRenumbered p rs rc im ts → IsRestrictedImage p s.carrying dc cs rc ts
+  restricted dc rc cs cycle im ts m kept inside r i t = record {
+    map = m.map;
+    carried = m.carried;
+    normal = t.normal;
+    within = t.within;
+    value = λ g l.
+        let x : List Factor = cell_at rc g in
+        let n = number_within (is_cell_of s.carrying.range) rs (cells_listing s.carrying.range) x (inside g l) in
+        let a = at_number (is_cell_of s.carrying.range) rs (cells_listing s.carrying.range) x (inside g l) in
+        same_trans (t.at g l)
+        (same_trans (exact p (by_cell-at rs (coefficient im) x n))
+        (same_trans (i.value (number_of rs x) n)
+        (same_trans (exact p (ap (image ds (kept_image s) (by_cell ds (coefficient cycle))) a ∙ sym (sums_are_of_one_map p s m cycle x sel r.normal kept)))
+        (total_same p (length ds) (λ h. by_cell ds (coefficient cycle) (cell_at ds h) * m.map (cell_at ds h) x) (λ h. by_cell dc (coefficient cs) (cell_at ds h) * m.map (cell_at ds h) x) (λ h q.
+        same-mul (same_trans (exact p (by_cell-at ds (coefficient cycle) (cell_at ds h) (omega (arith, number_is s h q)) ∙ ap (coefficient cycle) (number_is s h q))) (r.at h q)) (same_refl p (m.map (cell_at ds h) x)))))));
+  }
+
+-- a cycle of a basis names no number past the cells
+pub cycle_within : (p k j : ℕ) (A : CyclesOfLog) (cells : List (List Factor)) → 1 ≤ p → IsBasisByCycles p A → length A.log.complex.boundaries ≡ length cells → j < length (in_degree A.cycles k)
+    → AreWithin cells (get_or (in_degree A.cycles k) j [])
+cycle_within p k j A cells one ba count l g past =
+    same_zero p (coefficient (get_or (in_degree A.cycles k) j []) g) (coefficient-lt p 0 (2 ^ 32) (get_or (in_degree A.cycles k) j []) g one (ba.normal k j l))
+    (((ba.cycles k).cycles j l).chain.on g (le-ltb g (length A.log.complex.boundaries) (omega arith)))
+
+-- ---- one image more
+
+pub restricted_none : (p : ℕ) (c : Carrying) (dc : List (List Factor)) (zs : List (List (ℕ × ℕ))) (rc : List (List Factor)) (images : List (List (ℕ × ℕ))) → images ≡ [] → AreRestrictedImages p c dc zs rc 0 images
+restricted_none p c dc zs rc images e = record { count = ap length e; each = λ j l. absurd (omega arith) }
+
+pub restricted_more : (p : ℕ) (c : Carrying) (dc : List (List Factor)) (zs : List (List (ℕ × ℕ))) (rc : List (List Factor)) (n : ℕ) (images new : List (List (ℕ × ℕ))) (ts : List (ℕ × ℕ))
+    → AreRestrictedImages p c dc zs rc n images → new ≡ images ++ ts ∷ [] → IsRestrictedImage p c dc (get_or zs n []) rc ts → AreRestrictedImages p c dc zs rc (n + 1) new
+restricted_more p c dc zs rc n images new ts so_far e image = record {
+  count = ap length e ∙ length_push images ts ∙ ap (λ v. v + 1) so_far.count;
+  each = λ j l. ⊎_elim
+      (λ lt. subst (λ (us : List (ℕ × ℕ)). IsRestrictedImage p c dc (get_or zs j []) rc us) (sym (ap (λ cs. get_or cs j []) e ∙ get_or_append_left images (ts ∷ []) [] j (omega (arith, so_far.count)))) (so_far.each j lt))
+      (λ ge.
+      let k : j ≡ n = omega arith in
+      subst (λ (i : ℕ). IsRestrictedImage p c dc (get_or zs i []) rc (get_or new j [])) (sym k)
+      (subst (λ (us : List (ℕ × ℕ)). IsRestrictedImage p c dc (get_or zs n []) rc us) (sym (ap (λ cs. get_or cs j []) e ∙ ap (λ i. get_or (images ++ ts ∷ []) i []) k ∙ get_or_push images ts [] n so_far.count)) image))
+      (cases_lt j n);
+}
