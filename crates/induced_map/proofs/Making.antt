@@ -33,6 +33,10 @@ use Rattle.induced_map.proofs.Products.{column_of_all}
 pub cells_of_range : (p : ℕ) (c : Carrying) (dc : List (List Factor)) (A : CyclesOfLog) (rc : List (List Factor)) (B : BasisOfLog) → ArePairsOfMap p c dc A rc B → AreCellsOf c.range rc
 cells_of_range p c dc A rc B h g l = relative_cell c.range h.y h.b h.pairs.range_whole (cell_at rc g) (listed (is_relative h.y h.b) rc h.pairs.range.listing g l)
 
+-- and the complex of the first has a generator for each of its relative cells
+pub count_of_cells : (p : ℕ) (c : Carrying) (dc : List (List Factor)) (A : CyclesOfLog) (rc : List (List Factor)) (B : BasisOfLog) → ArePairsOfMap p c dc A rc B → length A.log.complex.boundaries ≡ length dc
+count_of_cells p c dc A rc B h = h.pairs.domain.complex.count
+
 module _ (p : ℕ) (c : Carrying) (is : IsCarrier p c) (one : 1 ≤ p) (dc : List (List Factor)) (A : CyclesOfLog) (rc : List (List Factor)) (B : BasisOfLog) (ba : IsBasisByCycles p A) (bb : IsBasisWithContraction p B) (k : ℕ) where
   abbrev zs : List (List (ℕ × ℕ))
   zs = in_degree A.cycles k

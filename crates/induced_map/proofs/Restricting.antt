@@ -10,20 +10,19 @@ use Rattle.elem_cubes.specs.Cells.{Factor}
 use Rattle.elem_cubes.specs.Laws.{cell_at}
 use Rattle.elem_cubes.proofs.Modular.{exact}
 use Rattle.chains.specs.Terms.{coefficient}
-use Rattle.chains.proofs.TermLists.{coefficient-lt}
+use Rattle.chains.proofs.TermLists.{coefficient-lt, named_at}
 use Rattle.algebraic_reduction.proofs.Residues.{same_zero}
-use Rattle.cube_sets.specs.Closures.{is_cell_of}
+use Rattle.cube_sets.specs.Closures.{is_cell_of, cells_of}
 use Rattle.cell_complex.specs.Numbering.{by_cell, number_of}
-use Rattle.cell_complex.proofs.Numbering.{number_within, at_number}
+use Rattle.cell_complex.proofs.Numbering.{number_at, number_within, at_number}
 use Rattle.acyclic_values.specs.CarriedMaps.{image}
 use Rattle.acyclic_values.proofs.Cells.{cells_listing}
 use Rattle.homology_basis.specs.Bases.{CyclesOfLog, in_degree, IsBasisByCycles}
 use Rattle.map_checks.specs.Carriers.{Carrying}
-use Rattle.chain_selector.specs.Selections.{Selection, IsSelection, IsOfOneMap, IsImageOf, AreKept, domain_cells, range_cells, kept_image}
+use Rattle.chain_selector.specs.Selections.{Selection, IsSelection, IsOfOneMap, IsImageOf, IsInDomain, AreKept, Extends, domain_cells, range_cells, kept_image}
 use Rattle.chain_selector.specs.Renumbered.{IsRenumbered}
 use Rattle.chain_selector.proofs.OtherNumbers.{by_cell-at}
 use Rattle.chain_selector.proofs.OneMap.{sums_are_of_one_map}
-use Rattle.chain_selector.proofs.Summing.{number_is}
 use Rattle.induced_map.specs.Within.{AreCellsOf, AreWithin}
 use Rattle.induced_map.specs.Images.{IsRestrictedImage, AreRestrictedImages}
 
@@ -54,8 +53,26 @@ module _ (p : ℕ) (s : Selection) (sel : IsSelection p s) where
         (same_trans (i.value (number_of rs x) n)
         (same_trans (exact p (ap (image ds (kept_image s) (by_cell ds (coefficient cycle))) a ∙ sym (sums_are_of_one_map p s m cycle x sel r.normal kept)))
         (total_same p (length ds) (λ h. by_cell ds (coefficient cycle) (cell_at ds h) * m.map (cell_at ds h) x) (λ h. by_cell dc (coefficient cs) (cell_at ds h) * m.map (cell_at ds h) x) (λ h q.
-        same-mul (same_trans (exact p (by_cell-at ds (coefficient cycle) (cell_at ds h) (omega (arith, number_is s h q)) ∙ ap (coefficient cycle) (number_is s h q))) (r.at h q)) (same_refl p (m.map (cell_at ds h) x)))))));
+        let number : number_of ds (cell_at ds h) ≡ h = number_at (is_cell_of s.carrying.domain) ds (cells_listing s.carrying.domain) h q in
+        same-mul (same_trans (exact p (by_cell-at ds (coefficient cycle) (cell_at ds h) (omega (arith, number)) ∙ ap (coefficient cycle) number)) (r.at h q)) (same_refl p (m.map (cell_at ds h) x)))))));
   }
+
+  -- the same where the first two steps were taken by what was kept before, and the chains are by numbers of lists that are those
+  pub restricted_by : (t : Selection) (dc rc from to : List (List Factor)) (cs cycle im ts : List (ℕ × ℕ)) → Extends t s → IsOfOneMap p s → AreKept s cycle → AreCellsOf t.carrying.range rc → from ≡ domain_cells t → to ≡ range_cells s
+      → IsRenumbered p dc from cs cycle → IsImageOf p s cycle im → IsRenumbered p to rc im ts → IsRestrictedImage p t.carrying dc cs rc ts
+  restricted_by t dc rc from to cs cycle im ts e m kept inside ef et r i u =
+      let back : t.carrying ≡ s.carrying = sym e.carrying in
+      subst (λ (c : Carrying). IsRestrictedImage p c dc cs rc ts) e.carrying
+      (restricted dc rc cs cycle im ts m kept (subst (λ (c : Carrying). AreCellsOf c.range rc) back inside)
+      (subst (λ (cells : List (List Factor)). IsRenumbered p dc cells cs cycle) (ef ∙ ap (λ (c : Carrying). cells_of c.domain) back) r) i
+      (subst (λ (cells : List (List Factor)). IsRenumbered p cells rc im ts) et u))
+
+-- a chain by the numbers of the cells of the domain names cells of it
+pub in_domain : (p : ℕ) (s : Selection) (dc from : List (List Factor)) (cs ts : List (ℕ × ℕ)) → from ≡ domain_cells s → IsRenumbered p dc from cs ts → IsInDomain s ts
+in_domain p s dc from cs ts is r k l = ⊎_elim
+    (λ lt. lt)
+    (λ past. let n = named_at p 0 (2 ^ 32) ts k r.normal l in let z = r.within (get_or ts k (0, 0)).0 (omega (arith, past, ap length is)) in absurd (omega (arith, n.1, n.2, z)))
+    (cases_lt (get_or ts k (0, 0)).0 (length (domain_cells s)))
 
 -- a cycle of a basis names no number past the cells
 pub cycle_within : (p k j : ℕ) (A : CyclesOfLog) (cells : List (List Factor)) → 1 ≤ p → IsBasisByCycles p A → length A.log.complex.boundaries ≡ length cells → j < length (in_degree A.cycles k)
@@ -66,18 +83,21 @@ cycle_within p k j A cells one ba count l g past =
 
 -- ---- one image more
 
+pub restricted_of : (p : ℕ) (c : Carrying) (dc : List (List Factor)) (cs us : List (ℕ × ℕ)) (rc : List (List Factor)) (ts : List (ℕ × ℕ)) → cs ≡ us → IsRestrictedImage p c dc cs rc ts → IsRestrictedImage p c dc us rc ts
+restricted_of p c dc cs us rc ts e = subst (λ (vs : List (ℕ × ℕ)). IsRestrictedImage p c dc vs rc ts) e
+
 pub restricted_none : (p : ℕ) (c : Carrying) (dc : List (List Factor)) (zs : List (List (ℕ × ℕ))) (rc : List (List Factor)) (images : List (List (ℕ × ℕ))) → images ≡ [] → AreRestrictedImages p c dc zs rc 0 images
 restricted_none p c dc zs rc images e = record { count = ap length e; each = λ j l. absurd (omega arith) }
 
-pub restricted_more : (p : ℕ) (c : Carrying) (dc : List (List Factor)) (zs : List (List (ℕ × ℕ))) (rc : List (List Factor)) (n : ℕ) (images new : List (List (ℕ × ℕ))) (ts : List (ℕ × ℕ))
-    → AreRestrictedImages p c dc zs rc n images → new ≡ images ++ ts ∷ [] → IsRestrictedImage p c dc (get_or zs n []) rc ts → AreRestrictedImages p c dc zs rc (n + 1) new
-restricted_more p c dc zs rc n images new ts so_far e image = record {
+pub restricted_more : (p : ℕ) (c d : Carrying) (dc : List (List Factor)) (zs : List (List (ℕ × ℕ))) (rc : List (List Factor)) (n : ℕ) (images new : List (List (ℕ × ℕ))) (ts : List (ℕ × ℕ))
+    → d ≡ c → AreRestrictedImages p c dc zs rc n images → new ≡ images ++ ts ∷ [] → IsRestrictedImage p d dc (get_or zs n []) rc ts → AreRestrictedImages p c dc zs rc (n + 1) new
+restricted_more p c d dc zs rc n images new ts same so_far e image = record {
   count = ap length e ∙ length_push images ts ∙ ap (λ v. v + 1) so_far.count;
   each = λ j l. ⊎_elim
       (λ lt. subst (λ (us : List (ℕ × ℕ)). IsRestrictedImage p c dc (get_or zs j []) rc us) (sym (ap (λ cs. get_or cs j []) e ∙ get_or_append_left images (ts ∷ []) [] j (omega (arith, so_far.count)))) (so_far.each j lt))
       (λ ge.
       let k : j ≡ n = omega arith in
       subst (λ (i : ℕ). IsRestrictedImage p c dc (get_or zs i []) rc (get_or new j [])) (sym k)
-      (subst (λ (us : List (ℕ × ℕ)). IsRestrictedImage p c dc (get_or zs n []) rc us) (sym (ap (λ cs. get_or cs j []) e ∙ ap (λ i. get_or (images ++ ts ∷ []) i []) k ∙ get_or_push images ts [] n so_far.count)) image))
+      (subst (λ (us : List (ℕ × ℕ)). IsRestrictedImage p c dc (get_or zs n []) rc us) (sym (ap (λ cs. get_or cs j []) e ∙ ap (λ i. get_or (images ++ ts ∷ []) i []) k ∙ get_or_push images ts [] n so_far.count)) (subst (λ (x : Carrying). IsRestrictedImage p x dc (get_or zs n []) rc ts) same image)))
       (cases_lt j n);
 }

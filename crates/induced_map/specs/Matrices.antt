@@ -15,9 +15,11 @@ none = record { rows = 0; columns = 0; entries = [] }
 abbrev pub nth : List Table → ℕ → Table
 nth all k = slice_index_or all k none
 
--- A and B are bases of the pairs of x and a, and of y and b, by the numbers of their relative cells;
--- together these are the domain and the range of the map, which sends the cubes of a into b
-pub record IsPairOfBasis (p : ℕ) (c : Carrying) (x a y b domain_cells : List (List Factor)) (A : CyclesOfLog) (range_cells : List (List Factor)) (B : BasisOfLog) : Type 0 where
+-- A and B are bases of the pairs of x and a, and of y and b, by the numbers of their relative
+-- cells; x and a are together the domain of the map, y and b its range, and it sends the cubes of a
+-- into b
+pub record IsPairOfBasis (p : ℕ) (c : Carrying) (x a y b domain_cells : List (List Factor))
+    (A : CyclesOfLog) (range_cells : List (List Factor)) (B : BasisOfLog) : Type 0 where
   pub domain : IsRelativeComplex p x a domain_cells A.log.complex
   pub range : IsRelativeComplex p y b range_cells B.log.complex
   pub domain_whole : IsTogether c.domain x a
@@ -25,7 +27,8 @@ pub record IsPairOfBasis (p : ℕ) (c : Carrying) (x a y b domain_cells : List (
   pub carried : GoesInto c.map a b
 
 -- .. for some pairs
-pub record ArePairsOfMap (p : ℕ) (c : Carrying) (domain_cells : List (List Factor)) (A : CyclesOfLog) (range_cells : List (List Factor)) (B : BasisOfLog) : Type 0 where
+pub record ArePairsOfMap (p : ℕ) (c : Carrying) (domain_cells : List (List Factor))
+    (A : CyclesOfLog) (range_cells : List (List Factor)) (B : BasisOfLog) : Type 0 where
   pub x : List (List Factor)
   pub a : List (List Factor)
   pub y : List (List Factor)
@@ -47,13 +50,18 @@ pub record IsFirstTooLarge (A : CyclesOfLog) (B : BasisOfLog) (last k : ℕ) : T
   pub before : (l : ℕ) → l < k → entries_in A B l ≤ 16777216
 
 -- the matrix has the sizes of the bases in degree k, and is that of every carried map in them
-pub record IsInduced (p : ℕ) (c : Carrying) (y b domain_cells : List (List Factor)) (A : CyclesOfLog) (range_cells : List (List Factor)) (B : BasisOfLog) (k : ℕ) (m : Table) : Type 0 where
+pub record IsInduced (p : ℕ) (c : Carrying) (y b domain_cells : List (List Factor))
+    (A : CyclesOfLog) (range_cells : List (List Factor)) (B : BasisOfLog) (k : ℕ) (m : Table)
+    : Type 0 where
   pub rows : m.rows ≡ length (in_degree B.cycles k)
   pub columns : m.columns ≡ length (in_degree A.cycles k)
-  pub induced : IsInducedMatrix p c.map c.domain c.range y b k (length (in_degree A.cycles k)) (nth_by_cell domain_cells (in_degree A.cycles k))
+  pub induced : IsInducedMatrix p c.map c.domain c.range y b k
+      (length (in_degree A.cycles k)) (nth_by_cell domain_cells (in_degree A.cycles k))
       (length (in_degree B.cycles k)) (nth_by_cell range_cells (in_degree B.cycles k)) (entry m)
 
 -- .. whatever the pairs are
-abbrev pub IsMatrixOf : ℕ → Carrying → List (List Factor) → CyclesOfLog → List (List Factor) → BasisOfLog → ℕ → Table → Type 0
+abbrev pub IsMatrixOf : ℕ → Carrying → List (List Factor) → CyclesOfLog → List (List Factor)
+    → BasisOfLog → ℕ → Table → Type 0
 IsMatrixOf p c domain_cells A range_cells B k m =
-    (x a y b : List (List Factor)) → IsPairOfBasis p c x a y b domain_cells A range_cells B → IsInduced p c y b domain_cells A range_cells B k m
+    (x a y b : List (List Factor)) → IsPairOfBasis p c x a y b domain_cells A range_cells B
+    → IsInduced p c y b domain_cells A range_cells B k m

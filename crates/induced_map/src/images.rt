@@ -28,7 +28,10 @@ pub(crate) fn images_of<const P: u16>(
     requires cells { AreCellsOf selector.old.carrying.range range_cells.now }
     requires complex { length domain.now.log.complex.boundaries ≡ length domain_cells.now }
     ensures extends { Extends selector.old selector.new }
-    ensures images { IfOk result (λ images. AreRestrictedImages P selector.old.carrying domain_cells.now (in_degree domain.now.cycles degree) range_cells.now (length (in_degree domain.now.cycles degree)) images.items) }
+    ensures images { IfOk result (λ images.
+        AreRestrictedImages P selector.old.carrying domain_cells.now
+        (in_degree domain.now.cycles degree) range_cells.now
+        (length (in_degree domain.now.cycles degree)) images.items) }
 {
     let mut images = Vec::new(alloc);
     for number in 0..domain.dimension(degree) {
@@ -52,7 +55,8 @@ fn image_of<const P: u16>(
     requires cells { AreCellsOf selector.old.carrying.range range_cells.now }
     requires chain { AreWithin domain_cells.now chain.now }
     ensures extends { Extends selector.old selector.new }
-    ensures image { IfOk result (IsRestrictedImage P selector.old.carrying domain_cells.now chain.now range_cells.now) }
+    ensures image { IfOk result (IsRestrictedImage P selector.old.carrying domain_cells.now
+        chain.now range_cells.now) }
 {
     let cycle = renumbered(alloc, field, chain, domain_cells, selector.domain_cells())?;
     let image = selector.image_of_chain(field, &cycle)?;

@@ -1,7 +1,8 @@
 //! The matrices that a map induces.
 ghost use Rattle.std.specs.Prelude.{◌≡◌, ◌+◌, ◌<◌, ◌≤◌, ℕ, vec_len, IfOk};
 ghost use Rattle.chain_selector.specs.Selections.{Extends};
-ghost use Rattle.induced_map.specs.Matrices.{ArePairsOfMap, HaveFewEntries, IsMatrixOf, nth, entries_in};
+ghost use Rattle.induced_map.specs.Matrices.{ArePairsOfMap, HaveFewEntries, IsMatrixOf};
+ghost use Rattle.induced_map.specs.Matrices.{nth, entries_in};
 
 use crate::images::images_of;
 use crate::products::products_of;
@@ -26,12 +27,14 @@ pub fn matrices<const P: u16>(
     range_cells: &Numbered,
     selector: &mut Selector<P>,
 ) -> Result<Vec<Matrix<P>>, NoMemory>
-    requires pairs { ArePairsOfMap P selector.old.carrying domain_cells.now domain.now range_cells.now range.now }
+    requires pairs { ArePairsOfMap P selector.old.carrying domain_cells.now domain.now
+        range_cells.now range.now }
     requires few { HaveFewEntries domain.now range.now selector.old.carrying.dimension }
     ensures extends { Extends selector.old selector.new }
     ensures count { IfOk result (λ all. vec_len all ≡ selector.old.carrying.dimension + 1) }
     ensures matrices { IfOk result (λ all. (k : ℕ) → k < vec_len all
-        → IsMatrixOf P selector.old.carrying domain_cells.now domain.now range_cells.now range.now k (nth all.items k)) }
+        → IsMatrixOf P selector.old.carrying domain_cells.now domain.now range_cells.now
+        range.now k (nth all.items k)) }
 {
     let mut all = Vec::new(alloc);
     for degree in 0..u16::from(selector.dimension()) + 1 {
@@ -61,10 +64,12 @@ fn matrix_of<const P: u16>(
     range_cells: &Numbered,
     selector: &mut Selector<P>,
 ) -> Result<Matrix<P>, NoMemory>
-    requires pairs { ArePairsOfMap P selector.old.carrying domain_cells.now domain.now range_cells.now range.now }
+    requires pairs { ArePairsOfMap P selector.old.carrying domain_cells.now domain.now
+        range_cells.now range.now }
     requires few { entries_in domain.now range.now degree ≤ 16777216 }
     ensures extends { Extends selector.old selector.new }
-    ensures matrix { IfOk result (IsMatrixOf P selector.old.carrying domain_cells.now domain.now range_cells.now range.now degree) }
+    ensures matrix { IfOk result (IsMatrixOf P selector.old.carrying domain_cells.now domain.now
+        range_cells.now range.now degree) }
 {
     // Their clauses say what a selector keeps and what bases are.
     let _dimension = selector.dimension();

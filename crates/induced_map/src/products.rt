@@ -17,7 +17,9 @@ pub(crate) fn products_of<const P: u16>(
     range: &Basis<P>,
     chains: &[Chain<P>],
 ) -> Result<Vec<u16>, NoMemory>
-    ensures products { IfOk result (λ entries. AreProducts P (in_degree range.now.cocycles degree) chains.now (length (in_degree range.now.cycles degree)) entries.items) }
+    ensures products { IfOk result (λ entries.
+        AreProducts P (in_degree range.now.cocycles degree) chains.now
+        (length (in_degree range.now.cycles degree)) entries.items) }
     ensures below { IfOk result (λ entries. AreBelow P entries.items) }
 {
     let mut entries = Vec::new(alloc);
@@ -35,7 +37,8 @@ fn push_products<const P: u16>(
     entries: &mut Vec<u16>,
 ) -> Result<(), NoMemory>
     requires { AreBelow P entries.old.items }
-    ensures products { OnOk result (AddsProducts P cochain.now chains.now (length chains.now) entries.old.items entries.new.items) }
+    ensures products { OnOk result (AddsProducts P cochain.now chains.now (length chains.now)
+        entries.old.items entries.new.items) }
     ensures below { OnOk result (AreBelow P entries.new.items) }
 {
     for chain in chains {
