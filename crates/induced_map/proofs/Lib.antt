@@ -1,4 +1,4 @@
-pub mod Products
+pub mod Columns
 pub mod Restricting
 pub mod Entering
 pub mod Making

@@ -11,7 +11,7 @@ use Rattle.field_mod.proofs.Modular.{same_refl, same_trans, same-mul}
 use Rattle.elem_cubes.specs.Cells.{Factor}
 use Rattle.elem_cubes.specs.Laws.{cell_at}
 use Rattle.elem_cubes.proofs.Modular.{exact}
-use Rattle.chains.specs.Terms.{coefficient, product}
+use Rattle.chains.specs.Terms.{coefficient, product, IsNormal}
 use Rattle.chains.proofs.Boundary.{product-total}
 use Rattle.algebraic_reduction.proofs.NumbersKept.{product-turned}
 use Rattle.cube_sets.specs.Closures.{cells_of}
@@ -27,7 +27,7 @@ use Rattle.map_checks.specs.Carriers.{Carrying, IsCarrier}
 use Rattle.induced_map.specs.Within.{AreCellsOf}
 use Rattle.induced_map.specs.Images.{IsRestrictedImage, AreRestrictedImages, AreProducts}
 use Rattle.induced_map.specs.Matrices.{none, nth, ArePairsOfMap, IsMatrixOf}
-use Rattle.induced_map.proofs.Products.{column_of_all}
+use Rattle.induced_map.proofs.Columns.{column_of_all}
 
 -- the relative cells of the second pair are cells of the range
 pub cells_of_range : (p : ℕ) (c : Carrying) (dc : List (List Factor)) (A : CyclesOfLog) (rc : List (List Factor)) (B : BasisOfLog) → ArePairsOfMap p c dc A rc B → AreCellsOf c.range rc
@@ -37,23 +37,23 @@ cells_of_range p c dc A rc B h g l = relative_cell c.range h.y h.b h.pairs.range
 pub count_of_cells : (p : ℕ) (c : Carrying) (dc : List (List Factor)) (A : CyclesOfLog) (rc : List (List Factor)) (B : BasisOfLog) → ArePairsOfMap p c dc A rc B → length A.log.complex.boundaries ≡ length dc
 count_of_cells p c dc A rc B h = h.pairs.domain.complex.count
 
+-- the product of a cochain with a chain of numbers below n, by what the chain has at these
+pub product_is : (p n : ℕ) (cochain ts : List (ℕ × ℕ)) (f : ℕ → ℕ) → IsNormal p ts → ((g : ℕ) → n ≤ g → coefficient ts g ≡ 0) → ((g : ℕ) → g < n → Same p (coefficient ts g) (f g))
+    → Same p (product cochain ts % p) (total n (λ g. coefficient cochain g * f g))
+product_is p n cochain ts f normal inside value =
+    let a : product cochain ts ≡ total n (λ h. coefficient ts h * coefficient cochain h) = product-turned cochain ts ∙ product-total p 0 n ts cochain (within p 0 (2 ^ 32) n ts normal (omega arith) inside) in
+    same_trans (record { same = mod-mod (product cochain ts) p }) (same_trans (exact p a) (total_same p n (λ h. coefficient ts h * coefficient cochain h) (λ h. coefficient cochain h * f h) (λ h l.
+    same_trans (exact p (turned (coefficient ts h) (coefficient cochain h))) (same-mul (same_refl p (coefficient cochain h)) (value h l)))))
+  where
+    turned : (u v : ℕ) → u * v ≡ v * u
+    turned u v = omega arith
+
 module _ (p : ℕ) (c : Carrying) (is : IsCarrier p c) (one : 1 ≤ p) (dc : List (List Factor)) (A : CyclesOfLog) (rc : List (List Factor)) (B : BasisOfLog) (ba : IsBasisByCycles p A) (bb : IsBasisWithContraction p B) (k : ℕ) where
   abbrev zs : List (List (ℕ × ℕ))
   zs = in_degree A.cycles k
 
   abbrev cs : List (List (ℕ × ℕ))
   cs = in_degree B.cocycles k
-
-  -- the product of a cochain with a restricted image
-  product_is : (cochain ts us : List (ℕ × ℕ)) (i : IsRestrictedImage p c dc us rc ts) → Same p (product cochain ts % p) (total (length rc) (λ g. coefficient cochain g * image (cells_of c.domain) i.map (by_cell dc (coefficient us)) (cell_at rc g)))
-  product_is cochain ts us i =
-      let n = length rc in
-      let a : product cochain ts ≡ total n (λ h. coefficient ts h * coefficient cochain h) = product-turned cochain ts ∙ product-total p 0 n ts cochain (within p 0 (2 ^ 32) n ts i.normal (omega arith) i.within) in
-      same_trans (record { same = mod-mod (product cochain ts) p }) (same_trans (exact p a) (total_same p n (λ h. coefficient ts h * coefficient cochain h) (λ h. coefficient cochain h * image (cells_of c.domain) i.map (by_cell dc (coefficient us)) (cell_at rc h)) (λ h l.
-      same_trans (exact p (turned (coefficient ts h) (coefficient cochain h))) (same-mul (same_refl p (coefficient cochain h)) (i.value h l)))))
-    where
-      turned : (u v : ℕ) → u * v ≡ v * u
-      turned u v = omega arith
 
   pub matrix_is : (images : List (List (ℕ × ℕ))) (entries : List ℕ) (m : Table) → AreRestrictedImages p c dc zs rc (length zs) images → AreProducts p cs images (length (in_degree B.cycles k)) entries
       → m.rows ≡ length (in_degree B.cycles k) → m.columns ≡ length zs → m.entries ≡ entries → IsMatrixOf p c dc A rc B k m
@@ -63,7 +63,7 @@ module _ (p : ℕ) (c : Carrying) (is : IsCarrier p c) (one : 1 ≤ p) (dc : Lis
     induced = λ e me j l.
         let i : IsRestrictedImage p c dc (get_or zs j []) rc (get_or images j []) = im.each j l in
         column_of_all p c.map c.domain c.range x a y b dc rc A B k j (λ r. entry m r j) i.map e one is.acyclic pairs.domain_whole pairs.range_whole pairs.carried pairs.domain pairs.range ba bb i.carried me l
-        (λ r q. same_trans (exact p (at r j ∙ pr.products r j q (omega (arith, im.count)))) (product_is (get_or cs r []) (get_or images j []) (get_or zs j []) i));
+        (λ r q. same_trans (exact p (at r j ∙ pr.products r j q (omega (arith, im.count)))) (product_is p (length rc) (get_or cs r []) (get_or images j []) (λ g. image (cells_of c.domain) i.map (by_cell dc (coefficient (get_or zs j []))) (cell_at rc g)) i.normal i.within i.value));
   }
     where
       at : (r j : ℕ) → entry m r j ≡ get_or entries (r * length images + j) 0
@@ -71,8 +71,8 @@ module _ (p : ℕ) (c : Carrying) (is : IsCarrier p c) (one : 1 ≤ p) (dc : Lis
 
   -- where the second basis is empty
   pub empty_matrix : (m : Table) → 0 ≡ length (in_degree B.cycles k) → m.rows ≡ 0 → m.columns ≡ length zs → IsMatrixOf p c dc A rc B k m
-  empty_matrix m no rows columns x a y b pairs = record {
-    rows = rows ∙ no;
+  empty_matrix m none_there rows columns x a y b pairs = record {
+    rows = rows ∙ none_there;
     columns = columns;
     induced = λ e me j l.
         column_of_all p c.map c.domain c.range x a y b dc rc A B k j (λ r. entry m r j) e e one is.acyclic pairs.domain_whole pairs.range_whole pairs.carried pairs.domain pairs.range ba bb me me l
