@@ -1,0 +1,6 @@
+pub mod Inclusions
+pub mod Classes
+pub mod Inverting
+pub mod Combining
+pub mod Sides
+pub mod Solving
