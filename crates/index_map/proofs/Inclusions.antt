@@ -20,7 +20,7 @@ use Rattle.acyclic_values.proofs.Values.{relative_out, relative_rest}
 use Rattle.acyclic_values.specs.CarriedMaps.{IsTogether}
 use Rattle.index_map.specs.Inclusion.{IsIncluded}
 
-together_append : (x a : List (List Factor)) → IsTogether (x ++ a) x a
+pub together_append : (x a : List (List Factor)) → IsTogether (x ++ a) x a
 together_append x a q = (
   (λ w. ⊎_elim (λ l. inl (from-In x q l)) (λ r. inr (from-In a q r)) (In-append x a q (In-from (x ++ a) q w))),
   (λ w. from-In (x ++ a) q (⊎_elim (λ l. left-In x a q (In-from x q l)) (λ r. right-In x a q (In-from a q r)) w)),

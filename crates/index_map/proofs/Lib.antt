@@ -4,3 +4,4 @@ pub mod Inverting
 pub mod Combining
 pub mod Sides
 pub mod Solving
+pub mod Including

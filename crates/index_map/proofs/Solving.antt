@@ -33,7 +33,7 @@ use Rattle.index_map.specs.Inverses.{AreProductsOf, AreInclusionProducts, IsInve
 use Rattle.index_map.proofs.Classes.{class_same, class_trans}
 use Rattle.index_map.proofs.Inverting.{IsInclusionOfBases, matrix, none_killed, invertible, killed, missed, inverse_times_induced_solves}
 use Rattle.index_map.proofs.Combining.{combined_by_cell}
-use Rattle.index_map.proofs.Sides.{killed_same, missed_same, killed_sized, square}
+use Rattle.index_map.proofs.Sides.{killed_same, missed_same, killed_sized}
 
 -- the complex of the first pair has a generator for each of its relative cells
 pub count_of_cells : (p : ℕ) (dc : List (List Factor)) (A : CyclesOfLog) (rc : List (List Factor)) (B : BasisOfLog) → AreIncludedPairs p dc A rc B → length A.log.complex.boundaries ≡ length dc
@@ -92,10 +92,7 @@ module _ (p k : ℕ) (dc : List (List Factor)) (A : CyclesOfLog) (rc : List (Lis
     none_killed_in (entry t) pr.products x a y b pair (λ v w. unkilled v (killed_sized p m n t.rows t.columns (entry t) v (sym pr.rows) (sym pr.columns) w)),
   )
 
-  -- with no vector killed on either side the matrix is square, and its inverse is that of the inclusion
-  pub square_by : (t : Table) → IsField p → AreInclusionProducts p dc A rc B k t → ((v : ℕ → ℕ) → LeraysKilled p t.rows t.columns (entry t) v → ⊥) → ((v : ℕ → ℕ) → LeraysKilled p t.columns t.rows (transpose (entry t)) v → ⊥) → t.rows ≡ t.columns
-  square_by t field pr right left = square p t.rows t.columns (entry t) field right left
-
+  -- the inverse of a square matrix
   pub inverse_is : (t s : Table) → AreInclusionProducts p dc A rc B k t → t.rows ≡ t.columns → s.rows ≡ t.rows → s.columns ≡ t.rows → IsInverse p t.rows (entry t) (entry s) → IsInverseInclusion p dc A rc B k s
   inverse_is t s pr sq rows columns inv = record {
     forward = entry t;

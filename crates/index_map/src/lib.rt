@@ -10,6 +10,6 @@ mod matrices;
 mod restrictions;
 
 pub use fault::{IndexFault, Side};
-pub use inclusion::NotIncluded;
+pub use inclusion::{NotIncluded, included};
 pub use laws::{faults_are_faults, index_matrices_solve_inclusions};
 pub use matrices::index;

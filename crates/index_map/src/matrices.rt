@@ -44,6 +44,9 @@ pub fn index<const P: u16>(
         → IsIncludedPair P x a y b domain_cells.now domain.now range_cells.now range.now
         → IsIndexFault P x a y b domain_cells.now range_cells.now fault) }
 {
+    // Their clauses say what bases are.
+    let _cycles = domain.dimension(0);
+    let _range_cycles = range.dimension(0);
     let mut all = Vec::new(alloc);
     for degree in 0..induced.len() {
         let matrix = &induced[degree];
@@ -80,6 +83,9 @@ fn inverse_in<const P: u16>(
     ensures fault { IfErr result (IsFaultIn P domain_cells.now domain.now range_cells.now
         range.now degree) }
 {
+    // Their clauses say what bases are.
+    let _columns = domain.dimension(degree);
+    let _rows = range.dimension(degree);
     let inclusion = inclusion_in(
         alloc,
         field,
