@@ -1,5 +1,5 @@
 -- Combinations of listed chains, one chain more at a time, and as chains of cells.
-use Rattle.std.proofs.Common.{◌≡◌, ℕ, ◌+◌, ◌*◌, ◌%◌, ◌<◌, ◌≤◌, sym, ap, ◌∙◌, arith, ⊎_elim, List, [], length, get_or, cond}
+use Rattle.std.proofs.Common.{◌≡◌, ℕ, ◌+◌, ◌*◌, ◌%◌, ◌≤◌, sym, ap, ◌∙◌, arith, ⊎_elim, List, [], length, get_or, cond}
 use Rattle.std.proofs.lemmas.Bool.{cases_lt, le-ltb}
 use native.Mathlib.Nat.{mod-mod}
 use Rattle.field_mod.specs.Modular.{Same}

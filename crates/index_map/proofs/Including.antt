@@ -1,6 +1,7 @@
 -- Members of sets that are inside others, and the first that is not.
-use Rattle.std.proofs.Common.{◌≡◌, ◌⊎◌, inl, inr, refl, sym, ap, ◌∙◌, ⊎_elim, List, ◌++◌, false, cond, Option, Some, None}
+use Rattle.std.proofs.Common.{◌≡◌, refl, sym, ap, ◌∙◌, subst, ⊎_elim, List, false, cond, Option, Some}
 use Rattle.std.specs.List.{Contains}
+use Rattle.std.specs.List.Sorted.{IsStrictlySortedBy}
 use Rattle.std.specs.Ordering.{ord_min, is_lt}
 use Rattle.std.specs.declared.cmp.Ordering.{Ordering}
 use Rattle.std.specs.declared.cmp.Ordering.TheVariants.{Less, Equal, Greater}
@@ -10,11 +11,10 @@ use Rattle.elem_cubes.specs.Order.{cell_cmp}
 use Rattle.elem_cubes.specs.OrderLemmas.{cell_cmp_total, cell_cmp_itself, tied_cells}
 use Rattle.cube_sets.specs.Sorted.{has, by_order}
 use Rattle.cube_sets.proofs.Merging.{above}
-use Rattle.acyclic_values.specs.CarriedMaps.{IsTogether}
-use Rattle.map_checks.specs.Firsts.{lower_one}
+use Rattle.map_checks.specs.Firsts.{IsFirst, IsFirstOf, lower_one}
 use Rattle.map_checks.specs.Faults.{together}
-use Rattle.map_checks.proofs.Firsts.{together_to, left_together, right_together}
-use Rattle.map_checks.proofs.Leaving.{in_set, out_of_set}
+use Rattle.map_checks.proofs.Firsts.{together_to, left_together, right_together, first_of_both}
+use Rattle.map_checks.proofs.Leaving.{in_set, out_of_set, together_itself}
 use Rattle.index_map.specs.Inclusion.{IsIncluded}
 use Rattle.index_map.proofs.Inclusions.{together_append}
 
@@ -48,3 +48,19 @@ lower_by q r Greater Greater e f = let t = above cell_cmp cell_cmp_total q r e i
 
 pub lower_is_min : (q r : List Factor) → lower_one (Some q) (Some r) ≡ Some (ord_min cell_cmp q r)
 lower_is_min q r = lower_by q r (cell_cmp q r) (cell_cmp r q) refl refl
+
+pub min_is : (left right : Option (List Factor)) (q r s : List Factor) → left ≡ Some q → right ≡ Some r → s ≡ ord_min cell_cmp q r → lower_one left right ≡ Some s
+min_is left right q r s e f g = ap (λ o. lower_one o right) e ∙ ap (lower_one (Some q)) f ∙ lower_is_min q r ∙ ap Some (sym g)
+
+-- ---- the first outside
+
+pub first_in_both : (x a : List (List Factor)) (P : List Factor → Type 0) (left right first : Option (List Factor)) → IsFirst x P left → IsFirst a P right → lower_one left right ≡ first → IsFirst (together x a) P first
+first_in_both x a P left right first f g e = subst (IsFirst (together x a) P) e (first_of_both x a P left right f g)
+
+-- outside a set with itself is outside it
+module _ (a b : List (List Factor)) (sorted : IsStrictlySortedBy cell_cmp b) where
+  pub subset_first : (q : List Factor) → IsFirstOf a (λ r. Contains (together b b) r → ⊥) q → IsFirstOf a (λ r. Contains b r → ⊥) q
+  subset_first q = subst (λ (set : List (List Factor)). IsFirstOf a (λ r. Contains set r → ⊥) q) (together_itself b sorted)
+
+  pub subset_none : ((q : List Factor) → Contains a q → (Contains (together b b) q → ⊥) → ⊥) → (q : List Factor) → Contains a q → Contains b q
+  subset_none none q w = subst (λ (set : List (List Factor)). Contains set q) (together_itself b sorted) (all_inside a (together b b) none q w)

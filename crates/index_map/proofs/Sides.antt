@@ -1,16 +1,15 @@
 -- Killed cycles and missed cocycles, from vectors that the matrix of an inclusion kills.
-use Rattle.std.proofs.Common.{◌≡◌, ℕ, ◌+◌, ◌*◌, ◌<◌, ◌≤◌, sym, ap, ◌∙◌, subst, arith, ⊎_elim, List, length}
+use Rattle.std.proofs.Common.{◌≡◌, ℕ, ◌*◌, subst, arith, ⊎_elim, List, length}
 use Rattle.std.proofs.lemmas.Bool.{cases_lt}
-use Rattle.field_mod.specs.Sums.{total}
 use Rattle.field_mod.specs.Modular.{Same, IsField}
 use Rattle.field_mod.proofs.Sums.{total-same, total_same}
-use Rattle.field_mod.proofs.Modular.{same_refl, same_sym, same_trans, same-mul, same-scale}
+use Rattle.field_mod.proofs.Modular.{same_sym, same_trans, same-scale}
 use Rattle.field_mod.proofs.Solutions.{Solution, solve}
 use Rattle.elem_cubes.specs.Cells.{Factor}
 use Rattle.elem_cubes.specs.Boundary.{boundary_coefficient}
 use Rattle.elem_cubes.specs.Laws.{cell_at}
 use Rattle.elem_cubes.proofs.Modular.{exact}
-use Rattle.chains.specs.Homology.{System, IsBoundaryOperator, IsChain, IsCycle, combination}
+use Rattle.chains.specs.Homology.{System, IsBoundaryOperator, IsChain, IsCycle}
 use Rattle.chains.proofs.Systems.{boundary-same, null-same}
 use Rattle.cube_sets.specs.Closures.{cells_of}
 use Rattle.cell_complex.specs.RelativeComplex.{relative_complex}

@@ -1,21 +1,21 @@
 -- What the inverse of the matrix of an inclusion gives, degree by degree.
-use Rattle.std.proofs.Common.{◌≡◌, ℕ, ◌+◌, ◌*◌, ◌%◌, ◌<◌, ◌≤◌, refl, sym, ap, ◌∙◌, subst, arith, ⊎_elim, List, [], ◌∷◌, ◌++◌, length, get_or}
+use Rattle.std.proofs.Common.{◌≡◌, ℕ, ◌+◌, ◌*◌, ◌%◌, ◌<◌, ◌≤◌, sym, ap, ◌∙◌, subst, arith, ⊎_elim, List, [], ◌∷◌, ◌++◌, length, get_or}
 use Rattle.std.proofs.lemmas.Bool.{cases_lt}
 use Rattle.std.proofs.lemmas.List.{get_or_append_left, get_or_push, length_push}
 use native.Mathlib.Nat.{mod-mod}
-use Rattle.field_mod.specs.Modular.{Same, IsField}
+use Rattle.field_mod.specs.Modular.{Same}
 use Rattle.field_mod.proofs.Sums.{total_same}
-use Rattle.field_mod.proofs.Modular.{same_refl, same_sym, same_trans, same-mul}
+use Rattle.field_mod.proofs.Modular.{same_refl, same_trans, same-mul}
 use Rattle.elem_cubes.specs.Cells.{Factor}
 use Rattle.elem_cubes.specs.Laws.{cell_at}
 use Rattle.elem_cubes.proofs.Modular.{exact}
-use Rattle.chains.specs.Terms.{coefficient, nth_chain}
+use Rattle.chains.specs.Terms.{coefficient}
 use Rattle.chains.specs.Homology.{System, combination}
 use Rattle.cell_complex.specs.Numbering.{by_cell}
 use Rattle.cell_complex.specs.RelativeComplex.{relative_complex}
 use Rattle.cell_complex.proofs.Squares.{relative_complexes_are_complexes}
 use Rattle.homology_basis.specs.Bases.{BasisOfLog, CyclesOfLog, in_degree, IsBasisByCycles, IsBasisWithContraction}
-use Rattle.leray_conley.specs.Tables.{Table, HasEntries, IsTable, entry}
+use Rattle.leray_conley.specs.Tables.{Table, HasEntries, entry}
 use Rattle.leray_conley.specs.Products.{product, transpose}
 use Rattle.leray_conley.specs.Inverses.{IsInverse}
 use Rattle.leray_conley.specs.Kernels.{IsKernelVector, IsKilled as LeraysKilled}
@@ -23,7 +23,7 @@ use Rattle.acyclic_values.specs.CarriedMaps.{IsSameClass}
 use Rattle.induced_map.specs.Pairs.{nth_by_cell}
 use Rattle.induced_map.specs.Lists.{AreEach}
 use Rattle.induced_map.specs.Images.{AreProducts}
-use Rattle.induced_map.specs.Matrices.{none, nth, entries_in}
+use Rattle.induced_map.specs.Matrices.{none, nth}
 use Rattle.induced_map.proofs.Making.{product_is}
 use Rattle.chain_selector.specs.Renumbered.{IsRenumbered}
 use Rattle.index_map.specs.Inclusion.{IsInvertibleInclusion, IsKilled, IsMissed}

@@ -1,16 +1,11 @@
 -- Bases of two pairs, the first of which is included in the second, and the matrices asked of them.
-use Rattle.std.specs.Prelude.{◌≡◌, ℕ, ◌*◌, ◌<◌, ◌≤◌, List, [], length}
-use Rattle.field_mod.specs.Sums.{total}
-use Rattle.field_mod.specs.Modular.{Same}
+use Rattle.std.specs.Prelude.{◌≡◌, ℕ, ◌<◌, ◌≤◌, List, [], length}
 use Rattle.elem_cubes.specs.Cells.{Factor}
-use Rattle.elem_cubes.specs.Laws.{cell_at}
-use Rattle.chains.specs.Terms.{nth_chain}
 use Rattle.chains.specs.Homology.{combination}
 use Rattle.cell_complex.specs.RelativeComplex.{relative_complex}
 use Rattle.cell_complex.specs.Numbering.{IsRelativeComplex}
 use Rattle.homology_basis.specs.Bases.{BasisOfLog, CyclesOfLog, in_degree}
 use Rattle.leray_conley.specs.Tables.{Table, entry}
-use Rattle.leray_conley.specs.Inverses.{IsInverse}
 use Rattle.acyclic_values.specs.CarriedMaps.{IsSameClass}
 use Rattle.induced_map.specs.Pairs.{nth_by_cell}
 use Rattle.induced_map.specs.Matrices.{nth}

@@ -9,18 +9,22 @@ use Rattle.index_map.proofs.matrices.inverse_in.Goals as goal
 
 pub returns-in-Some-clause-fault : goal.returns-in-Some-clause-fault
 returns-in-Some-clause-fault g c =
-    let q = rw c.in-Some.is at c.in_ok-numbers.ensures in
-    (refl, killed_by g.row.P c.args.degree c.args.domain_cells.now c.args.domain.now c.args.range_cells.now c.args.range.now c.dimension-columns.ensures.basis c.dimension-rows.ensures.basis (omega (arith, two_le g.row.P c.args.field.listed))
-    c.in_ok-inclusion.inclusion c.in-Some.numbers.items c.in_ok-cycle.cycle c.in_ok-inclusion.ensures q
-    (subst (λ (xs : List ℕ). IsCombination g.row.P (λ i. get_or xs i 0) (in_degree c.args.domain.now.cycles c.args.degree) (length (in_degree c.args.domain.now.cycles c.args.degree)) c.in_ok-cycle.cycle) c.deref.ensures.value c.in_ok-cycle.ensures))
+    let q = rw c.in-Some.is at c.in_ok-numbers.ensures in (
+      refl,
+      killed_by g.row.P c.args.degree c.args.domain_cells.now c.args.domain.now c.args.range_cells.now c.args.range.now c.dimension-columns.ensures.basis c.dimension-rows.ensures.basis (omega (arith, two_le g.row.P c.args.field.listed))
+          c.in_ok-inclusion.inclusion c.in-Some.numbers.items c.in_ok-cycle.cycle c.in_ok-inclusion.ensures q
+          (subst (λ (xs : List ℕ). IsCombination g.row.P (λ i. get_or xs i 0) (in_degree c.args.domain.now.cycles c.args.degree) (length (in_degree c.args.domain.now.cycles c.args.degree)) c.in_ok-cycle.cycle) c.deref.ensures.value c.in_ok-cycle.ensures),
+    )
 
 pub returns-in-Some-2-clause-fault : goal.returns-in-Some-2-clause-fault
 returns-in-Some-2-clause-fault g c =
     let unkilled = rw c.in_default.is at c.in_ok-numbers.ensures in
-    let q = rw c.in-Some-2.is at c.in_ok-numbers-2.ensures in
-    (refl, missed_by g.row.P c.args.degree c.args.domain_cells.now c.args.domain.now c.args.range_cells.now c.args.range.now c.dimension-columns.ensures.basis c.dimension-rows.ensures.basis (omega (arith, two_le g.row.P c.args.field.listed))
-    c.in_ok-inclusion.inclusion c.in-Some-2.numbers.items c.in_ok-cocycle.cocycle c.in_ok-inclusion.ensures unkilled q
-    (subst (λ (xs : List ℕ). IsCombination g.row.P (λ i. get_or xs i 0) (in_degree c.args.range.now.cocycles c.args.degree) (length (in_degree c.args.range.now.cycles c.args.degree)) c.in_ok-cocycle.cocycle) c.deref-in-Some-2.ensures.value c.in_ok-cocycle.ensures))
+    let q = rw c.in-Some-2.is at c.in_ok-numbers-2.ensures in (
+      refl,
+      missed_by g.row.P c.args.degree c.args.domain_cells.now c.args.domain.now c.args.range_cells.now c.args.range.now c.dimension-columns.ensures.basis c.dimension-rows.ensures.basis (omega (arith, two_le g.row.P c.args.field.listed))
+          c.in_ok-inclusion.inclusion c.in-Some-2.numbers.items c.in_ok-cocycle.cocycle c.in_ok-inclusion.ensures unkilled q
+          (subst (λ (xs : List ℕ). IsCombination g.row.P (λ i. get_or xs i 0) (in_degree c.args.range.now.cocycles c.args.degree) (length (in_degree c.args.range.now.cycles c.args.degree)) c.in_ok-cocycle.cocycle) c.deref-in-Some-2.ensures.value c.in_ok-cocycle.ensures),
+    )
 
 pub inverse-requires : goal.inverse-requires
 inverse-requires g c =

@@ -8,8 +8,14 @@ use Rattle.induced_map.proofs.Restricting.{cycle_within}
 use Rattle.index_map.proofs.restrictions.restricted_cycles.Goals as goal
 
 pub renumbered-requires : goal.renumbered-requires
-renumbered-requires g c = ((omega arith), ((omega arith), subst (λ (us : List (ℕ × ℕ)). AreWithin c.args.domain_cells.now us) (sym c.cycle-cycle.ensures)
-    (cycle_within g.row.P c.args.degree c.loop-number.number c.args.domain.now c.args.domain_cells.now (omega (arith, two_le g.row.P c.args.field.listed)) c.dimension-number-end.ensures.basis c.requires (omega (arith, c.loop-number-test.true, c.dimension-number-end.ensures.dimension)))))
+renumbered-requires g c = (
+  (omega arith),
+  (
+    (omega arith),
+    subst (λ (us : List (ℕ × ℕ)). AreWithin c.args.domain_cells.now us) (sym c.cycle-cycle.ensures)
+        (cycle_within g.row.P c.args.degree c.loop-number.number c.args.domain.now c.args.domain_cells.now (omega (arith, two_le g.row.P c.args.field.listed)) c.dimension-number-end.ensures.basis c.requires (omega (arith, c.loop-number-test.true, c.dimension-number-end.ensures.dimension))),
+  ),
+)
 
 pub loop-number-preserved : goal.loop-number-preserved
 loop-number-preserved g c =
