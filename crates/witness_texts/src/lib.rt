@@ -1,0 +1,9 @@
+//! Witness files as texts: their header.
+#![tactic(auto)]
+
+mod fronts;
+mod heading;
+mod reading;
+
+pub use heading::{ClaimKind, Header};
+pub use reading::header;
