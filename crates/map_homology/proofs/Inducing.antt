@@ -38,14 +38,19 @@ use Rattle.map_homology.proofs.Basing.{printed_by_cell, right_part}
 -- ---- entries that are the same
 
 same_ranks : (p rows columns : ℕ) (a b : ℕ → ℕ → ℕ) (r : ℕ) → ((i j : ℕ) → i < rows → j < columns → b i j ≡ a i j) → IsRank p rows columns a r → IsRank p rows columns b r
-same_ranks p rows columns a b r e (v, h) = (v, record {
-  sources = h.sources;
-  inside = record { at = λ i j li lj. subst (λ (n : ℕ). Same p (v i j) n)
-      (total-same columns (λ l. a i l * h.sources l j) (λ l. b i l * h.sources l j) (λ l ll. ap (λ n. n * h.sources l j) (sym (e i l li ll)))) (h.inside.at i j li lj) };
-  weights = h.weights;
-  spans = record { at = λ i j li lj. subst (λ (n : ℕ). Same p n (product r v h.weights i j)) (sym (e i j li lj)) (h.spans.at i j li lj) };
-  independent = h.independent;
-})
+same_ranks p rows columns a b r e (v, h) = (
+  v,
+  record {
+    sources = h.sources;
+    inside = record {
+      at = λ i j li lj. subst (λ (n : ℕ). Same p (v i j) n)
+          (total-same columns (λ l. a i l * h.sources l j) (λ l. b i l * h.sources l j) (λ l ll. ap (λ n. n * h.sources l j) (sym (e i l li ll)))) (h.inside.at i j li lj);
+    };
+    weights = h.weights;
+    spans = record { at = λ i j li lj. subst (λ (n : ℕ). Same p n (product r v h.weights i j)) (sym (e i j li lj)) (h.spans.at i j li lj) };
+    independent = h.independent;
+  },
+)
 
 same_induced : (p : ℕ) (map : List Naming) (domain range y b : List (List Factor)) (k columns : ℕ) (zs : ℕ → List Factor → ℕ) (rows : ℕ) (ws : ℕ → List Factor → ℕ) (e f : ℕ → ℕ → ℕ)
     → ((i j : ℕ) → i < rows → j < columns → f i j ≡ e i j) → IsInducedMatrix p map domain range y b k columns zs rows ws e → IsInducedMatrix p map domain range y b k columns zs rows ws f
@@ -121,9 +126,9 @@ module _ (p : ℕ) (m : PairMap) (c : Carrying) (domain : PairCells) (A : Cycles
   some_map : (f : List Factor → List Factor → ℕ) × IsCarriedMap p m.map.named (domain_of m) (range_of m) f
   some_map =
       let on_map : IsAcyclicMap p m.map.named (domain_of m) (range_of m) =
-          subst (λ (map : List Naming). IsAcyclicMap p map (domain_of m) (range_of m)) h.carrier.map
-          (subst (λ (d : List (List Factor)). IsAcyclicMap p c.map d (range_of m)) h.carrier.domain
-          (subst (λ (r : List (List Factor)). IsAcyclicMap p c.map c.domain r) h.carrier.range h.carrier.carrier.acyclic)) in
+      subst (λ (map : List Naming). IsAcyclicMap p map (domain_of m) (range_of m)) h.carrier.map
+      (subst (λ (d : List (List Factor)). IsAcyclicMap p c.map d (range_of m)) h.carrier.domain
+      (subst (λ (r : List (List Factor)). IsAcyclicMap p c.map c.domain r) h.carrier.range h.carrier.carrier.acyclic)) in
       carried_maps_exist p m.map.named (domain_of m) (range_of m) (omega (arith, two_le p is_modulus)) on_map
 
   pub right_map : (report : MapReport) (all : List Table) → length all ≡ c.dimension + 1
@@ -142,7 +147,7 @@ module _ (p : ℕ) (m : PairMap) (c : Carrying) (domain : PairCells) (A : Cycles
       in_degree_right : (k : ℕ) → k < length all → IsRightMatrix p m k (get_or report.domain.cycles k []) (get_or report.range.cycles k []) (get_or report.ranks k 0) (get_or report.matrices.items k [])
       in_degree_right k l =
           let made = right_matrix k (nth all k) (get_or report.matrices.items k []) (get_or report.ranks k 0)
-              (matrices k l m.x.cells m.a.cells m.y.cells m.b.cells pair_of_basis) (tables.each k l) (ranks.each k l) in
+          (matrices k l m.x.cells m.a.cells m.y.cells m.b.cells pair_of_basis) (tables.each k l) (ranks.each k l) in
           subst (λ (zs : List (List (List Factor × ℕ))). IsRightMatrix p m k zs (get_or report.range.cycles k []) (get_or report.ranks k 0) (get_or report.matrices.items k [])) (sym (domain_part.by_degree.cycle k (omega (arith, l, count))))
           (subst (λ (ws : List (List (List Factor × ℕ))). IsRightMatrix p m k (domain_cycles k) ws (get_or report.ranks k 0) (get_or report.matrices.items k [])) (sym (range_part.by_degree.cycle k (omega (arith, l, count)))) made)
 

@@ -36,12 +36,14 @@ fn prepared<const P: u16>(
     ensures fault { IfErr result (λ fault. fault ≡ Fault.OutOfMemory) }
 {
     match prepare(alloc, field, x, a) {
-        Ok(Prepared {
-            cells,
-            grown,
-            left,
-            log,
-        }) => {
+        Ok(
+            Prepared {
+                cells,
+                grown,
+                left,
+                log,
+            },
+        ) => {
             // Its clauses say that the cells stand in order.
             let _count = cells.len();
             Ok((PairCells { cells, grown, left }, log))

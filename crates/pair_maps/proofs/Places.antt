@@ -15,7 +15,6 @@ coefficient_zero : (p high : ℕ) (ts : List (ℕ × ℕ)) (g : ℕ) → IsNorma
 coefficient_zero p high [] g w s = refl
 coefficient_zero p high (t ∷ ts) g w s = same_zero p (coefficient (t ∷ ts) g) (coefficient-lt p 0 high (t ∷ ts) g (omega (arith, w.1, w.2)) w) s
 
-
 -- a term at a place is of the list
 pub place_below : (p : ℕ) (cells : List (List Factor)) (ts : List (ℕ × ℕ)) (i : ℕ) → IsNormal p ts → IsWithin p cells ts → i < length ts → (get_or ts i (0, 0)).0 < length cells
 place_below p cells ts i n w l =

@@ -14,7 +14,7 @@ matrices-requires g c =
     let some = c.requires.bases in
     let same = sym c.in_ok-selector.ensures.carrier in
     let pairs = subst (λ (s : Carrying). ArePairsOfMap g.row.P s c.args.domain.cells c.args.cycles.now c.args.range.cells c.args.basis.now) same
-        (pairs_of_map g.row.P some.map c.args.carrier c.args.domain c.args.cycles.now c.args.range c.args.basis.now c.args.field.listed some.bases) in
+    (pairs_of_map g.row.P some.map c.args.carrier c.args.domain c.args.cycles.now c.args.range c.args.basis.now c.args.field.listed some.bases) in
     let few = subst (λ (s : Carrying). HaveFewEntries c.args.cycles.now c.args.basis.now s.dimension) same c.requires.few in
     ((omega arith), ((omega arith), ((omega arith), ((omega arith), ((omega arith), (pairs, few))))))
 

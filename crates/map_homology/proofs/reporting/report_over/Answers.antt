@@ -19,14 +19,25 @@ range_basis-requires g c =
 
 pub report_of-requires : goal.report_of-requires
 report_of-requires g c =
-    let few = subst (λ (n : ℕ). HaveFewEntries c.in_ok-domain.cycles c.in_ok-range.basis n) c.dimension.ensures.dimension c.in_ok-test_entries.ensures.few in
-    ((omega arith), ((omega arith), ((omega arith), ((omega arith), (
-      record {
-        map = c.args.input.now;
-        bases = record { carrier = c.in_ok-carrier.ensures.carrier; of_domain = c.in_ok-domain.ensures.basis; of_range = c.in_ok-range.ensures.basis };
-      },
-      few,
-    )))))
+    let few = subst (λ (n : ℕ). HaveFewEntries c.in_ok-domain.cycles c.in_ok-range.basis n) c.dimension.ensures.dimension c.in_ok-test_entries.ensures.few in (
+      (omega arith),
+      (
+        (omega arith),
+        (
+          (omega arith),
+          (
+            (omega arith),
+            (
+              record {
+                map = c.args.input.now;
+                bases = record { carrier = c.in_ok-carrier.ensures.carrier; of_domain = c.in_ok-domain.ensures.basis; of_range = c.in_ok-range.ensures.basis };
+              },
+              few,
+            ),
+          ),
+        ),
+      ),
+    )
 
 pub returns-in_err-carrier : goal.returns-in_err-carrier
 returns-in_err-carrier g c =
@@ -62,8 +73,7 @@ returns-in_err-report g c =
 
 pub returns : goal.returns
 returns g c =
-    let few = subst (λ (n : ℕ). HaveFewEntries c.in_ok-domain.cycles c.in_ok-range.basis n) c.dimension.ensures.dimension c.in_ok-test_entries.ensures.few in
-    (
+    let few = subst (λ (n : ℕ). HaveFewEntries c.in_ok-domain.cycles c.in_ok-range.basis n) c.dimension.ensures.dimension c.in_ok-test_entries.ensures.few in (
       c.in_ok-report.ensures c.args.input.now (record { carrier = c.in_ok-carrier.ensures.carrier; of_domain = c.in_ok-domain.ensures.basis; of_range = c.in_ok-range.ensures.basis }),
       allowed g.row.P c.args.input.now c.in_ok-carrier.ensures.allowed
           (none_large g.row.P c.args.input.now c.args.field.listed c.in_ok-carrier.carrier c.in_ok-domain.domain c.in_ok-domain.cycles c.in_ok-range.range c.in_ok-range.basis
