@@ -32,6 +32,11 @@ fn limits_have_their_names(rt: HostRuntime) {
             "error: limit: cells: 4194304\n",
         ),
         (
+            LimitName::MatrixEntries,
+            16_777_216,
+            "error: limit: matrix-entries: 16777216\n",
+        ),
+        (
             LimitName::Generators,
             1_048_576,
             "error: limit: generators: 1048576\n",

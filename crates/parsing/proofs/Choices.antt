@@ -5,33 +5,23 @@ use Rattle.std.specs.Str.{bytes_eq}
 use Rattle.std.proofs.lemmas.Slice.Eq.{bytes_eq-Decides}
 use Rattle.clap.specs.Walk.{Text, arg_by_id}
 use Rattle.command_line.specs.declared.choice.Choice.{Choice}
-use Rattle.command_line.specs.declared.choice.Choice.TheVariants.{Modulus, Cycles, Stats, SetAlone}
+use Rattle.command_line.specs.declared.choice.Choice.TheVariants.{Modulus, Cycles, Stats, Map, Matrix, SetAlone}
 use Rattle.command_line.specs.Operands.{named}
 use Rattle.command_line.specs.Forms.{option_name, same_choice}
+use Rattle.command_line.proofs.Orders.{same_self, same_is}
 use Rattle.parsing.proofs.Rules.{by_id, option_built, rules_of}
-
-pub same_self : (c : Choice) → same_choice c c ≡ true
-same_self Modulus = refl
-same_self Cycles = refl
-same_self Stats = refl
-same_self SetAlone = refl
-
-pub same_is : (d c : Choice) → same_choice d c ≡ true → d ≡ c
-same_is Modulus Modulus e = refl
-same_is Cycles Cycles e = refl
-same_is Stats Stats e = refl
-same_is SetAlone SetAlone e = refl
-same_is d c e = absurd (true≢false (sym e))
 
 -- the option that has a name
 choice_of : Text → Option Choice
-choice_of name = named option_name (Modulus ∷ Cycles ∷ Stats ∷ SetAlone ∷ []) name
+choice_of name = named option_name (Modulus ∷ Cycles ∷ Stats ∷ Map ∷ Matrix ∷ SetAlone ∷ []) name
 
 choice_of_name : (c : Choice) → choice_of (option_name c) ≡ Some c
 unfolding choice_of
 choice_of_name Modulus = refl
 choice_of_name Cycles = refl
 choice_of_name Stats = refl
+choice_of_name Map = refl
+choice_of_name Matrix = refl
 choice_of_name SetAlone = refl
 
 one_name : (d c : Choice) → option_name d ≡ option_name c → d ≡ c
@@ -49,15 +39,6 @@ same_name d c = by (bytes_eq (option_name d) (option_name c)) (same_choice d c) 
     by false true e f =
         let is : d ≡ c = same_is d c f in
         absurd (true≢false (sym ((bytes_eq-Decides (option_name d) (option_name c)).1 (ap option_name is)) ∙ e))
-
-pub same_turned : (d c : Choice) → same_choice d c ≡ same_choice c d
-same_turned d c = by (same_choice d c) (same_choice c d) refl refl
-  where
-    by : (x y : Bool) → same_choice d c ≡ x → same_choice c d ≡ y → x ≡ y
-    by true true e f = refl
-    by false false e f = refl
-    by true false e f = let is : d ≡ c = same_is d c e in absurd (true≢false (sym (ap (λ x. same_choice x d) (sym is) ∙ same_self d) ∙ f))
-    by false true e f = let is : c ≡ d = same_is c d f in absurd (true≢false (sym (ap (λ x. same_choice d x) is ∙ same_self d) ∙ e))
 
 -- ---- the options of a form
 

@@ -19,7 +19,8 @@ use Rattle.command_line.specs.declared.choice.Setting.{Setting}
 use Rattle.command_line.specs.Forms.{Row as Form, Spoken, option_name, takes_value}
 use Rattle.parsing.specs.Found.{Finds, IsFlag, setting_of, valued}
 use Rattle.parsing.proofs.Rules.{operand_built, flag_built, is_operand_no, option_built, rules_of, shape_of, valued_built}
-use Rattle.parsing.proofs.Choices.{same_is, same_name}
+use Rattle.command_line.proofs.Orders.{same_is}
+use Rattle.parsing.proofs.Choices.{same_name}
 use Rattle.parsing.proofs.Rows.{has_row-row_at, joined, row_at, row_at-other, row_at-same}
 use Rattle.parsing.proofs.Said.{Has, IsFit, operand_row, setting_row, values_of}
 use Rattle.parsing.proofs.Turns.{takes_built, flag_is}

@@ -5,10 +5,10 @@ use Rattle.command_line.specs.declared.choice.Choice.{Choice}
 use Rattle.command_line.specs.declared.choice.Setting.{Setting}
 use Rattle.command_line.specs.Forms.{Row as Form, Spoken, are_once, is_set, same_choice}
 use Rattle.command_line.specs.Words.{request_of}
-use Rattle.command_line.proofs.Orders.{SaySame, request_same, same_cons, same_refl, same_swap, same_trans}
+use Rattle.command_line.proofs.Orders.{SaySame, request_same, same_cons, same_is, same_refl, same_swap, same_trans, same_turned}
 use Rattle.parsing.specs.Found.{in_table, setting_of, settings_of}
 use Rattle.parsing.specs.Syntax.{IsListed}
-use Rattle.parsing.proofs.Choices.{is_option, same_is, same_turned}
+use Rattle.parsing.proofs.Choices.{is_option}
 use Rattle.parsing.proofs.Reading.{of_table}
 use Rattle.parsing.proofs.Walking.{and_left, and_right}
 

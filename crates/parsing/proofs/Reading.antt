@@ -10,9 +10,10 @@ use Rattle.clap.specs.Walk.{rows_after}
 use Rattle.clap.specs.Faults.{built_fault, fault_of}
 use Rattle.clap.proofs.FaultLemmas.{leaf_fault}
 use Rattle.command_line.specs.declared.choice.Choice.{Choice}
+use Rattle.command_line.specs.declared.choice.Choice.TheVariants.{Map}
 use Rattle.command_line.specs.declared.choice.Setting.{Setting}
 use Rattle.command_line.specs.Operands.{named}
-use Rattle.command_line.specs.Forms.{Row as Form, Spoken, Said, Nothing, Operand, Set, Next, Anything, ValueOf, OperandsAlone, WordRead, also, alone, are_once, fits, forms, is_empty, is_equals, is_plain, nothing_spoken, option_named, option_read, spoken, takes_value, valued, word_first, word_read, words_read}
+use Rattle.command_line.specs.Forms.{Row as Form, Spoken, Said, Nothing, Operand, Set, Next, Anything, ValueOf, OperandsAlone, WordRead, also, alone, are_once, fits, form_with, forms, is_empty, is_equals, is_plain, is_set, nothing_spoken, of_map, option_named, option_read, spoken, takes_value, valued, word_first, word_read, words_read}
 use Rattle.command_line.specs.Words.{request_of, chosen_of}
 use Rattle.parsing.specs.Syntax.{IsListed, syntax}
 use Rattle.parsing.specs.Found.{Finds}
@@ -167,12 +168,21 @@ fitting_wanted form said one full_too e =
         absurd (omega arith)
     some (w ∷ ws) e = refl
 
+-- a form that options choose takes an operand too
+with_one : (form : Form) (settings : List Setting) → nat_le 1 form.fewest ≡ true → nat_le 1 (form_with settings form).fewest ≡ true
+with_one form settings one = by (is_set Map settings)
+  where
+    by : (b : Bool) → nat_le 1 (cond b (of_map form) form).fewest ≡ true
+    by true = refl
+    by false = one
+
 no_request : (form : Form) → nat_le 1 form.fewest ≡ true → (words : List Text) → ((more : Spoken) → scan form Anything words ≡ Some more → wanted more ≡ true → ⊥)
     → option_and_then (request_of form) (words_read form Anything words) ≡ None
 no_request form one words none = ap (option_and_then (request_of form)) (words_strict form Anything words) ∙ by (scan form Anything words) refl
   where
-    fitted : (m : Spoken) → full m ≡ true → scan form Anything words ≡ Some m → (b : Bool) → fits form m ≡ b → option_and_then (chosen_of form) (cond b (Some m) None) ≡ None
-    fitted m full_too is true e = absurd (none m is (fitting_wanted form m one full_too e))
+    fitted : (m : Spoken) → full m ≡ true → scan form Anything words ≡ Some m → (b : Bool) → fits (form_with m.settings form) m ≡ b
+        → option_and_then (chosen_of (form_with m.settings form)) (cond b (Some m) None) ≡ None
+    fitted m full_too is true e = absurd (none m is (fitting_wanted (form_with m.settings form) m (with_one form m.settings one) full_too e))
     fitted m full_too is false e = refl
 
     by : (o : Option Spoken) → scan form Anything words ≡ o → option_and_then (request_of form) (option_and_then only_full o) ≡ None
@@ -181,7 +191,7 @@ no_request form one words none = ap (option_and_then (request_of form)) (words_s
       where
         whole : (b : Bool) → full m ≡ b → option_and_then (request_of form) (cond b (Some m) None) ≡ None
         whole false e = refl
-        whole true e = fitted m e is (fits form m) refl
+        whole true e = fitted m e is (fits (form_with m.settings form) m) refl
 
 pub answer : {A : Type 0} (form : Form) (words : List (String A)) → IsListed form → Answer form words
 answer form words listed = by (all_words form start words)

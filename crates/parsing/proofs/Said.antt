@@ -11,7 +11,8 @@ use Rattle.command_line.specs.declared.choice.Setting.{Setting}
 use Rattle.command_line.specs.Forms.{Spoken, Said, Nothing, Operand, Set, nothing_spoken, after, option_name, takes_value, same_choice, is_set, are_once, is_empty}
 use Rattle.parsing.specs.Found.{setting_of}
 use Rattle.parsing.proofs.Rules.{is_operand_no, not_operand}
-use Rattle.parsing.proofs.Choices.{is_option, same_is, same_name, same_turned}
+use Rattle.command_line.proofs.Orders.{same_is, same_turned}
+use Rattle.parsing.proofs.Choices.{is_option, same_name}
 use Rattle.parsing.proofs.Rows.{has_row-row_at, joined, row_at, row_at-other, row_at-same, without-none}
 
 -- ---- no empty text, and each option once

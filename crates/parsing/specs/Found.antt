@@ -1,14 +1,11 @@
 -- What is found for the arguments of a form's command.
-use Rattle.std.specs.Prelude.{◌≡◌, ◌⊎◌, ℕ, List, Option, None, Some, Bool, true, false, codes, find, option_map, is_some}
+use Rattle.std.specs.Prelude.{◌≡◌, ◌⊎◌, ℕ, List, Option, None, Some, Bool, true, false, codes, option_map, is_some}
 use Rattle.std.specs.List.{filter_map}
 use Rattle.clap.specs.Walk.{Row as Found, all_of, first_of, one_of}
 use Rattle.command_line.specs.declared.choice.Choice.{Choice}
 use Rattle.command_line.specs.declared.choice.Setting.{Setting}
-use Rattle.command_line.specs.Forms.{Spoken, option_name, takes_value, same_choice}
-
--- the first of the settings that is of this option
-abbrev pub setting_of : List Setting → Choice → Option Setting
-setting_of settings choice = find (λ s. same_choice s.choice choice) settings
+use Rattle.command_line.specs.Forms.{Spoken, option_name, takes_value}
+pub use Rattle.command_line.specs.Forms.{setting_of}
 
 -- the settings in the order of these options
 abbrev pub settings_of : List Choice → List Setting → List Setting
