@@ -1,9 +1,11 @@
 -- The texts of reports.
-use Rattle.std.specs.Prelude.{ℕ, ◌+◌, ◌==◌, if◌then◌else◌, List, [], ◌∷◌, ◌++◌, get_or, length, codes, decimal}
+use Rattle.std.specs.Prelude.{ℕ, ◌+◌, ◌==◌, if◌then◌else◌, List, [], ◌∷◌, ◌++◌, map, get_or, length, Option, None, Some, codes, decimal}
 use Rattle.std.specs.List.{flat_map}
 use Rattle.faults.specs.ChainText.{cell_text, number_text, chain_text}
 use Rattle.report.specs.declared.pair.PairReport.{PairReport}
 use Rattle.report.specs.declared.map_report.MapReport.{MapReport}
+use Rattle.report.specs.declared.index_part.IndexPart.{IndexPart}
+use Rattle.report.specs.declared.index_part.LerayRows.{LerayRows}
 use Rattle.report.specs.declared.reports.Report.{Report}
 use Rattle.report.specs.declared.reports.Report.TheVariants.{Pair, Map, Chain}
 use Rattle.report.specs.declared.reports.Shown.{Shown}
@@ -82,13 +84,14 @@ row_line [] = []
 row_line (entry ∷ entries) =
     codes " " ++ flat_map entry_text (entry ∷ entries) ++ codes "\n"
 
--- the line on the rank of a map in degree k
-abbrev pub rank_line : ℕ → ℕ → List ℕ
-rank_line k rank = codes "F_" ++ decimal k ++ codes " rank " ++ decimal rank ++ codes "\n"
+-- the line on the rank of a map of this letter in degree k
+abbrev pub rank_line : List ℕ → ℕ → ℕ → List ℕ
+rank_line letter k rank =
+    letter ++ codes "_" ++ decimal k ++ codes " rank " ++ decimal rank ++ codes "\n"
 
 -- the lines on a map in degree k: its rank, and the rows of its matrix
 abbrev pub map_degree_lines : ℕ → ℕ → List (List ℕ) → List ℕ
-map_degree_lines k rank rows = rank_line k rank ++ flat_map row_line rows
+map_degree_lines k rank rows = rank_line (codes "F") k rank ++ flat_map row_line rows
 
 -- the lines of degree k and up, for these ranks and the matrices of all degrees from 0
 abbrev pub map_lines_from : ℕ → List ℕ → List (List (List ℕ)) → List ℕ
@@ -100,12 +103,42 @@ map_lines_from k (rank ∷ ranks) matrices =
 abbrev pub shown_matrices : Shown → List (List (List ℕ)) → List (List (List ℕ))
 shown_matrices shown matrices = if shown.matrix then matrices else []
 
+-- the line on the size of a reduced Leray matrix in degree k
+abbrev pub leray_line : ℕ → ℕ → List ℕ
+leray_line k size = codes "L_" ++ decimal k ++ codes " = " ++ decimal size ++ codes "\n"
+
+-- the lines on an index matrix in degree k: its rank and its rows, the size of its reduced Leray
+-- matrix, and the rows of that one
+abbrev pub index_degree_lines : ℕ → ℕ → List (List ℕ) → ℕ → List (List ℕ) → List ℕ
+index_degree_lines k rank rows size reduced =
+    rank_line (codes "N") k rank ++ flat_map row_line rows
+    ++ leray_line k size ++ flat_map row_line reduced
+
+-- the reduced Leray matrices, by degree
+abbrev pub reduced_of : List LerayRows → List (List (List ℕ))
+reduced_of leray = map (λ l. l.reduced) leray
+
+-- the lines of degree k and up, for these ranks and the matrices of all degrees from 0
+abbrev pub index_lines_from : Shown → ℕ → List ℕ → List (List (List ℕ)) → List (List (List ℕ)) → List ℕ
+index_lines_from shown k [] matrices reduced = []
+index_lines_from shown k (rank ∷ ranks) matrices reduced =
+    index_degree_lines k rank (get_or (shown_matrices shown matrices) k [])
+    (length (get_or reduced k [])) (get_or (shown_matrices shown reduced) k [])
+    ++ index_lines_from shown (k + 1) ranks matrices reduced
+
+-- the lines on index matrices, where they are wanted
+abbrev pub index_text : Option IndexPart → Shown → List ℕ
+index_text None shown = []
+index_text (Some index) shown = codes "index\n"
+    ++ index_lines_from shown 0 index.ranks index.matrices.items (reduced_of index.leray.items)
+
 -- the lines on a map, and on the pairs between which it goes
 abbrev pub map_text : MapReport → Shown → List ℕ
 map_text map shown =
     codes "domain\n" ++ pair_lines map.domain shown
     ++ codes "range\n" ++ pair_lines map.range shown
     ++ codes "map\n" ++ map_lines_from 0 map.ranks (shown_matrices shown map.matrices.items)
+    ++ index_text map.index shown
 
 -- ---- reports
 
