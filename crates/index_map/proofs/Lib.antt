@@ -6,3 +6,6 @@ pub mod Sides
 pub mod Solving
 pub mod Including
 pub mod Tops
+pub mod Kernels
+pub mod Existing
+pub mod Decided

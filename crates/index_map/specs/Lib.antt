@@ -4,3 +4,4 @@ pub mod Pairs
 pub mod Faults
 pub mod Combinations
 pub mod Inverses
+pub mod Deciding

@@ -11,5 +11,7 @@ mod restrictions;
 
 pub use fault::{IndexFault, Side};
 pub use inclusion::{NotIncluded, included};
-pub use laws::{faults_are_faults, index_matrices_solve_inclusions, no_cycles_above};
+pub use laws::{
+    faults_are_faults, inclusions_are_decided, index_matrices_solve_inclusions, no_cycles_above,
+};
 pub use matrices::index;
