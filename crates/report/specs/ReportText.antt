@@ -89,56 +89,63 @@ abbrev pub rank_line : List ℕ → ℕ → ℕ → List ℕ
 rank_line letter k rank =
     letter ++ codes "_" ++ decimal k ++ codes " rank " ++ decimal rank ++ codes "\n"
 
--- the lines on a map in degree k: its rank, and the rows of its matrix
-abbrev pub map_degree_lines : ℕ → ℕ → List (List ℕ) → List ℕ
-map_degree_lines k rank rows = rank_line (codes "F") k rank ++ flat_map row_line rows
+-- the rows that are printed
+abbrev pub shown_rows : Shown → List (List ℕ) → List (List ℕ)
+shown_rows shown rows = if shown.matrix then rows else []
+
+-- the lines on a map of this letter in degree k: its rank, and the rows of its matrix
+abbrev pub map_degree_lines : Shown → List ℕ → ℕ → ℕ → List (List ℕ) → List ℕ
+map_degree_lines shown letter k rank rows =
+    rank_line letter k rank ++ flat_map row_line (shown_rows shown rows)
 
 -- the lines of degree k and up, for these ranks and the matrices of all degrees from 0
-abbrev pub map_lines_from : ℕ → List ℕ → List (List (List ℕ)) → List ℕ
-map_lines_from k [] matrices = []
-map_lines_from k (rank ∷ ranks) matrices =
-    map_degree_lines k rank (get_or matrices k []) ++ map_lines_from (k + 1) ranks matrices
+abbrev pub map_lines_from : Shown → ℕ → List ℕ → List (List (List ℕ)) → List ℕ
+map_lines_from shown k [] matrices = []
+map_lines_from shown k (rank ∷ ranks) matrices =
+    map_degree_lines shown (codes "F") k rank (get_or matrices k [])
+    ++ map_lines_from shown (k + 1) ranks matrices
 
--- the matrices that are printed
-abbrev pub shown_matrices : Shown → List (List (List ℕ)) → List (List (List ℕ))
-shown_matrices shown matrices = if shown.matrix then matrices else []
+-- ---- index matrices
 
 -- the line on the size of a reduced Leray matrix in degree k
-abbrev pub leray_line : ℕ → ℕ → List ℕ
-leray_line k size = codes "L_" ++ decimal k ++ codes " = " ++ decimal size ++ codes "\n"
-
--- the lines on an index matrix in degree k: its rank and its rows, the size of its reduced Leray
--- matrix, and the rows of that one
-abbrev pub index_degree_lines : ℕ → ℕ → List (List ℕ) → ℕ → List (List ℕ) → List ℕ
-index_degree_lines k rank rows size reduced =
-    rank_line (codes "N") k rank ++ flat_map row_line rows
-    ++ leray_line k size ++ flat_map row_line reduced
+abbrev pub size_line : ℕ → ℕ → List ℕ
+size_line k size = codes "L_" ++ decimal k ++ codes " = " ++ decimal size ++ codes "\n"
 
 -- the reduced Leray matrices, by degree
 abbrev pub reduced_of : List LerayRows → List (List (List ℕ))
 reduced_of leray = map (λ l. l.reduced) leray
 
+-- the lines on an index matrix in degree k, and the size and the rows of its reduced Leray matrix
+abbrev pub index_degree_lines : Shown → ℕ → ℕ → List (List ℕ) → List (List ℕ) → List ℕ
+index_degree_lines shown k rank rows reduced =
+    map_degree_lines shown (codes "N") k rank rows
+    ++ size_line k (length reduced) ++ flat_map row_line (shown_rows shown reduced)
+
 -- the lines of degree k and up, for these ranks and the matrices of all degrees from 0
-abbrev pub index_lines_from : Shown → ℕ → List ℕ → List (List (List ℕ)) → List (List (List ℕ)) → List ℕ
+abbrev pub index_lines_from : Shown → ℕ → List ℕ → List (List (List ℕ))
+    → List (List (List ℕ)) → List ℕ
 index_lines_from shown k [] matrices reduced = []
 index_lines_from shown k (rank ∷ ranks) matrices reduced =
-    index_degree_lines k rank (get_or (shown_matrices shown matrices) k [])
-    (length (get_or reduced k [])) (get_or (shown_matrices shown reduced) k [])
+    index_degree_lines shown k rank (get_or matrices k []) (get_or reduced k [])
     ++ index_lines_from shown (k + 1) ranks matrices reduced
 
--- the lines on index matrices, where they are wanted
-abbrev pub index_text : Option IndexPart → Shown → List ℕ
-index_text None shown = []
-index_text (Some index) shown = codes "index\n"
+-- the lines on index matrices
+abbrev pub index_text : IndexPart → Shown → List ℕ
+index_text index shown = codes "index\n"
     ++ index_lines_from shown 0 index.ranks index.matrices.items (reduced_of index.leray.items)
+
+-- those that are wanted
+abbrev pub wanted_text : Option IndexPart → Shown → List ℕ
+wanted_text None shown = []
+wanted_text (Some index) shown = index_text index shown
 
 -- the lines on a map, and on the pairs between which it goes
 abbrev pub map_text : MapReport → Shown → List ℕ
 map_text map shown =
     codes "domain\n" ++ pair_lines map.domain shown
     ++ codes "range\n" ++ pair_lines map.range shown
-    ++ codes "map\n" ++ map_lines_from 0 map.ranks (shown_matrices shown map.matrices.items)
-    ++ index_text map.index shown
+    ++ codes "map\n" ++ map_lines_from shown 0 map.ranks map.matrices.items
+    ++ wanted_text map.index shown
 
 -- ---- reports
 
