@@ -5,7 +5,6 @@ use Rattle.std.proofs.lemmas.Bool.{cases_Bool}
 use Rattle.elem_cubes.specs.Cells.{Factor}
 use Rattle.elem_cubes.specs.Order.{cell_cmp}
 use Rattle.cube_sets.specs.Sorted.{has}
-use Rattle.map_checks.specs.Faults.{together}
 use Rattle.map_checks.proofs.Firsts.{together_to, left_together, right_together}
 use Rattle.map_checks.proofs.Leaving.{in_set, out_of_set}
 use Rattle.faults.specs.declared.fault.Fault.{Fault}

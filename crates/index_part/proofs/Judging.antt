@@ -12,14 +12,14 @@ use Rattle.faults.specs.declared.fault.Fault.TheVariants.{Killed, Missed}
 use Rattle.faults.specs.Statuses.{status_of, without_chain}
 use Rattle.faults.specs.declared.status.Status.TheVariants as statuses
 use Rattle.pair_maps.specs.declared.inputs.PairMap.{PairMap}
-use Rattle.index_map.specs.Inclusion.{IsIncluded, IsKilled, IsMissed}
+use Rattle.index_map.specs.Inclusion.{IsIncluded, IsMissed}
 use Rattle.index_map.specs.Deciding.{relative_list, SomeChain, IsFirstFailure}
 use Rattle.index_map.proofs.Inverting.{faults_are_faults}
 use Rattle.index_map.proofs.Sides.{killed_same, missed_same}
 use Rattle.index_map.proofs.Existing.{relative_sorted, relative_listing}
 use Rattle.index_map.proofs.Decided.{inclusions_are_decided}
 use Rattle.index_part.specs.Right.{IsInvertibleIn}
-use Rattle.index_part.specs.Refusals.{IsKilledIn, RefusesInclusion, RefusesDegree, RefusesInverse, RefusesIndex}
+use Rattle.index_part.specs.Refusals.{IsKilledIn, RefusesDegree, RefusesInverse, RefusesIndex}
 use Rattle.index_part.proofs.Printed.{printed_chain, printed_by_cell}
 use Rattle.index_part.proofs.Included.{included_or_not, never_included, inclusions_alike}
 

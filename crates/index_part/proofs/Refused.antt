@@ -1,5 +1,5 @@
 -- What tells that an inclusion is not invertible refuses the index part.
-use Rattle.std.proofs.Common.{◌≡◌, ◌⊎◌, inl, inr, ℕ, ◌<◌, ◌≤◌, ◌^◌, arith, List, length}
+use Rattle.std.proofs.Common.{◌≡◌, ◌⊎◌, inl, inr, ℕ, ◌^◌, arith, List, length}
 use Rattle.elem_cubes.specs.Cells.{Factor}
 use Rattle.chains.specs.Terms.{coefficient, IsNormal, IsNormalWithin}
 use Rattle.cell_complex.specs.RelativeComplex.{is_relative}

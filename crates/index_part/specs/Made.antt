@@ -1,5 +1,5 @@
 -- What the index part is made of, by the numbers of cells.
-use Rattle.std.specs.Prelude.{◌≡◌, ◌⊎◌, ℕ, ◌<◌, List, [], length, slice_index, slice_index_or}
+use Rattle.std.specs.Prelude.{◌≡◌, ℕ, ◌<◌, List, [], length}
 use Rattle.elem_cubes.specs.Cells.{Factor}
 use Rattle.chains.specs.Terms.{IsNormal}
 use Rattle.cell_complex.specs.Numbering.{cell_terms}
@@ -9,7 +9,8 @@ use Rattle.leray_conley.specs.LerayData.{HasLeraySizes, splitting_of}
 use Rattle.leray_conley.specs.Splitting.{IsLeraySplitting}
 use Rattle.leray_conley.specs.declared.leray.Leray.{Leray}
 use Rattle.faults.specs.declared.fault.Fault.{Fault}
-use Rattle.faults.specs.declared.fault.Fault.TheVariants.{NotInRange, NotInSubset, Killed, Missed, OutOfMemory}
+use Rattle.faults.specs.declared.fault.Fault.TheVariants.{NotInRange, NotInSubset}
+use Rattle.faults.specs.declared.fault.Fault.TheVariants.{Killed, Missed, OutOfMemory}
 use Rattle.report.specs.declared.index_part.LerayRows.{LerayRows}
 use Rattle.report.specs.declared.index_part.IndexPart.{IndexPart}
 use Rattle.induced_map.specs.Matrices.{nth}

@@ -1,5 +1,5 @@
 -- From a log that leaves no boundary to a basis of a pair; and its cycles, as they are printed.
-use Rattle.std.proofs.Common.{◌≡◌, ℕ, ◌+◌, ◌<◌, ◌≤◌, sym, ap, ◌∙◌, arith, subst, List, [], length, get_or, map}
+use Rattle.std.proofs.Common.{◌≡◌, ℕ, ◌<◌, sym, ◌∙◌, subst, List, [], length, get_or, map}
 use Rattle.field_mod.specs.Moduli.{IsModulus}
 use Rattle.field_mod.proofs.Table.{is_field}
 use Rattle.elem_cubes.specs.Cells.{Factor}

@@ -1,5 +1,5 @@
 -- Each pair of sets has a basis of its homology in each degree.
-use Rattle.std.proofs.Common.{ℕ, ◌<◌, ◌≤◌, ◌^◌, arith, List, length}
+use Rattle.std.proofs.Common.{ℕ, ◌<◌, ◌^◌, arith, List, length}
 use Rattle.field_mod.specs.Moduli.{IsModulus}
 use Rattle.field_mod.proofs.Table.{two_le, is_field}
 use Rattle.elem_cubes.specs.Cells.{Factor}

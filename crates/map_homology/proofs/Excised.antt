@@ -1,7 +1,7 @@
 -- A set and what excision leaves of its subset have no more cells than both.
-use Rattle.std.proofs.Common.{◌≡◌, ◌≤◌, ⊎_elim, sym, ◌∙◌, List, ◌++◌, length, true, subst}
+use Rattle.std.proofs.Common.{◌≡◌, ◌≤◌, ⊎_elim, sym, ◌∙◌, List, ◌++◌, true, subst}
 use Rattle.elem_cubes.specs.Cells.{Factor}
-use Rattle.elem_cubes.proofs.Members.{In, In-append, left-In, right-In}
+use Rattle.elem_cubes.proofs.Members.{In-append, left-In, right-In}
 use Rattle.cube_sets.specs.Sets.{Members}
 use Rattle.cube_sets.specs.Closures.{is_cell_of, cells_of}
 use Rattle.cube_sets.proofs.Covering.{cells_are_faces}

@@ -1,15 +1,13 @@
 -- The matrices, with the ranks and the cycles beside them, are right.
-use Rattle.std.proofs.Common.{◌≡◌, ◌⊎◌, ⊎_elim, ℕ, ◌+◌, ◌*◌, ◌<◌, ◌≤◌, sym, ap, ◌∙◌, arith, subst, List, [], length, get_or, map, Bool, true, Option, Some, None}
+use Rattle.std.proofs.Common.{◌≡◌, ⊎_elim, ℕ, ◌+◌, ◌*◌, ◌<◌, ◌≤◌, sym, ap, ◌∙◌, arith, subst, List, [], length, get_or, map, Bool, true, Option, Some, None}
 use Rattle.std.specs.List.{Contains}
 use Rattle.std.proofs.lemmas.Bool.{true≢false}
 use Rattle.std.proofs.lemmas.List.{length-map}
-use Rattle.field_mod.specs.Sums.{total}
 use Rattle.field_mod.specs.Modular.{Same}
 use Rattle.field_mod.specs.Moduli.{IsModulus}
 use Rattle.field_mod.proofs.Sums.{total-same}
 use Rattle.field_mod.proofs.Table.{two_le}
 use Rattle.elem_cubes.specs.Cells.{Factor}
-use Rattle.chains.specs.Homology.{combination}
 use Rattle.cell_complex.specs.RelativeComplex.{relative_complex}
 use Rattle.cell_complex.specs.Numbering.{cell_terms}
 use Rattle.cube_maps.specs.CubeMaps.{Naming}
@@ -24,12 +22,10 @@ use Rattle.leray_conley.specs.Tables.{Table, entry}
 use Rattle.leray_conley.specs.Products.{product}
 use Rattle.leray_conley.specs.Ranks.{IsRank}
 use Rattle.induced_map.specs.Pairs.{nth_by_cell}
-use Rattle.induced_map.specs.Matrices.{IsPairOfBasis, ArePairsOfMap, IsInduced, IsMatrixOf, none, nth}
-use Rattle.basis_reports.specs.ByDegree.{AreByDegree}
+use Rattle.induced_map.specs.Matrices.{IsPairOfBasis, ArePairsOfMap, IsInduced, IsMatrixOf, nth}
 use Rattle.pair_maps.specs.declared.inputs.PairMap.{PairMap}
 use Rattle.pair_maps.specs.Inputs.{domain_of, range_of, dimension_of_map}
 use Rattle.report.specs.declared.index_part.IndexPart.{IndexPart}
-use Rattle.report.specs.declared.pair.PairReport.{PairReport}
 use Rattle.report.specs.declared.map_report.MapReport.{MapReport}
 use Rattle.map_homology.specs.declared.bases.PairCells.{PairCells}
 use Rattle.index_map.specs.Inclusion.{IsIncluded}

@@ -1,5 +1,5 @@
 -- Whether some matrix has too many entries.
-use Rattle.std.proofs.Common.{◌≡◌, ℕ, zero, suc, ◌+◌, ◌*◌, ◌<◌, ◌≤◌, ◌⊎◌, inl, inr, ⊎_elim, sym, ap, ◌∙◌, arith, subst, length, get_or, map}
+use Rattle.std.proofs.Common.{◌≡◌, ℕ, zero, suc, ◌+◌, ◌*◌, ◌<◌, ◌≤◌, ◌⊎◌, inl, inr, ⊎_elim, sym, ap, ◌∙◌, arith, subst, length, map}
 use Rattle.std.proofs.lemmas.Bool.{cases_lt}
 use Rattle.field_mod.specs.Moduli.{IsModulus}
 use Rattle.field_mod.proofs.Table.{is_field}
@@ -8,7 +8,7 @@ use Rattle.cell_complex.specs.RelativeComplex.{relative_complex}
 use Rattle.cell_complex.specs.Numbering.{cell_terms}
 use Rattle.cell_complex.proofs.Squares.{relative_complexes_are_complexes}
 use Rattle.homology_basis.specs.Bases.{BasisOfLog, CyclesOfLog, in_degree}
-use Rattle.induced_map.specs.Matrices.{HaveFewEntries, IsFirstTooLarge, entries_in}
+use Rattle.induced_map.specs.Matrices.{HaveFewEntries, IsFirstTooLarge}
 use Rattle.map_checks.specs.Carriers.{Carrying}
 use Rattle.pair_maps.specs.declared.inputs.PairMap.{PairMap}
 use Rattle.pair_maps.specs.Inputs.{dimension_of_map}

@@ -73,7 +73,8 @@ IsIndexAsMade p wanted domain_cells A range_cells B induced (Some part) =
 -- numbers, by degree from 0 to n, and the counts of the pair
 pub record IsPartOf (pair : PairCells) (cycles : CyclesOver ℕ) (n : ℕ) (part : PairReport)
     : Type 0 where
-  pub by_degree : AreByDegree (λ k. cell_terms pair.cells) cycles (n + 1) part.dimensions part.cycles
+  pub by_degree : AreByDegree (λ k. cell_terms pair.cells) cycles (n + 1)
+      part.dimensions part.cycles
   pub cells : part.cells ≡ length pair.cells
   pub grown : part.grown ≡ pair.grown
   pub left : part.left ≡ pair.left

@@ -38,8 +38,8 @@ abbrev pub IsRightIndexAs : ℕ → Bool → PairMap → (ℕ → List (List (Li
 IsRightIndexAs p wanted m cycles None = wanted ≡ false
 IsRightIndexAs p wanted m cycles (Some part) = (wanted ≡ true) × IsRightIndex p m cycles part
 
--- The report on the map m is right modulo p: both pairs are right, some chain map is carried, and by
--- degree from 0 to the dimension of the map the matrices are those of every one that is, in the
+-- The report on the map m is right modulo p: both pairs are right, some chain map is carried, and
+-- by degree from 0 to the dimension of the map the matrices are those of every one that is, in the
 -- cycles of these two parts. Where index matrices are wanted there is a right index part.
 pub record IsRightMap (p : ℕ) (wanted : Bool) (m : PairMap) (report : MapReport) : Type 0 where
   pub domain : IsRightPart p (dimension_of_map m) m.x.cells m.a.cells report.domain

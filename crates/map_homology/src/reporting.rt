@@ -40,14 +40,7 @@ pub(crate) fn report_over<const P: u16>(
     test_entries(&cycles, &basis, carrier.dimension())?;
     test_inclusion(input, wanted)?;
     let report = report_of(
-        alloc,
-        field,
-        carrier,
-        domain,
-        &cycles,
-        range,
-        &basis,
-        wanted,
+        alloc, field, carrier, domain, &cycles, range, &basis, wanted,
     )?;
     Ok(report)
 }

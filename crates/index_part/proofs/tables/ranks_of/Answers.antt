@@ -1,4 +1,4 @@
-use Rattle.std.proofs.Common.{◌≡◌, ℕ, ◌+◌, length, sym, subst, arith}
+use Rattle.std.proofs.Common.{ℕ, length, sym, subst, arith}
 use Rattle.induced_map.specs.Matrices.{nth}
 use Rattle.index_part.specs.Filled.{IsFilled}
 use Rattle.index_part.specs.Tables.{IsRankOf}

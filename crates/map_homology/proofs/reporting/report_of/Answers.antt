@@ -32,8 +32,7 @@ index_of-requires g c =
     (λ k l. c.in_ok-all.ensures.matrices k (omega (arith, l, count))) in
     let few : c.args.carrier.dimension ≤ 255 = omega (arith, last) in
     let made : AreSized c.args.cycles.now c.args.basis.now all = sized g.row.P some.map c.args.carrier c.args.domain c.args.cycles.now c.args.range c.args.basis.now c.args.field.listed some.bases.bases all total matrices few in
-    let sizes : AreSized c.args.cycles.now c.args.basis.now c.deref.result.now = subst (λ (ms : List Table). AreSized c.args.cycles.now c.args.basis.now ms) (sym c.deref.ensures.value) made in
-    (
+    let sizes : AreSized c.args.cycles.now c.args.basis.now c.deref.result.now = subst (λ (ms : List Table). AreSized c.args.cycles.now c.args.basis.now ms) (sym c.deref.ensures.value) made in (
       (omega arith),
       (
         (omega arith),

@@ -1,4 +1,4 @@
-use Rattle.std.proofs.Common.{◌≡◌, ⊎_elim, inl, inr, ℕ, arith, subst}
+use Rattle.std.proofs.Common.{inl, inr, ℕ, arith, subst}
 use Rattle.std.proofs.lemmas.Result.{err_from_is_err_and}
 use Rattle.loading.specs.Jobs.{IsAllowed}
 use Rattle.induced_map.specs.Matrices.{HaveFewEntries, IsFirstTooLarge}
