@@ -1,2 +1,9 @@
 mod Deciding
 mod Sorting
+mod Ranks
+mod Axes
+mod Spreading
+mod Views
+mod Counting
+mod Unions
+mod Closing

@@ -2,6 +2,9 @@
 #![tactic(auto)]
 
 mod fault;
+mod mask;
+mod place;
+mod places;
 mod points;
 
 pub use fault::PointsFault;
