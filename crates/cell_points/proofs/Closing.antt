@@ -13,7 +13,9 @@ use Rattle.std.proofs.Math.Nat.{div-le_self}
 use Rattle.std.proofs.lemmas.List.{length-set}
 use Rattle.std.proofs.lemmas.Nat.{or_lt, and_le_l}
 use Rattle.elem_cubes.specs.Corners.{corner_cmp}
-use Rattle.elem_cubes.specs.Cells.{Factor, is_wide, lower_of, cell_of}
+use Rattle.elem_cubes.specs.Cells.{Factor, is_wide, lower_of, axes_of, cell_of}
+use Rattle.elem_cubes.specs.KeepingLemmas.{lower-cell_of}
+use Rattle.std.proofs.lemmas.Nat.Bits.{bit_at-zero}
 use Rattle.elem_cubes.specs.OrderLemmas.{tied_lists}
 use Rattle.elem_cubes.specs.Walks.{factor_at}
 use Rattle.elem_cubes.proofs.Members.{In, In-map, map-In, In-flat, flat-In}
@@ -22,7 +24,7 @@ use Rattle.cube_sets.proofs.Merging.{IsBelow}
 use Rattle.cell_points.specs.Masks.{turned, has_bit, wide_along, fall_along, narrowed}
 use Rattle.cell_points.specs.Places.{place_cmp, cells_at, cells_of_places, rank_of, IsPlace, ArePlaces, lowered, raised, raised_all, up_along, holds_at}
 use Rattle.cell_points.specs.declared.place.Place.{Place}
-use Rattle.cell_points.proofs.Ranks.{has_or, has_narrowed, bit_within, some_bit}
+use Rattle.cell_points.proofs.Ranks.{has_or, has_narrowed, turned_few, bit_within, some_bit}
 use Rattle.cell_points.proofs.Axes.{with_end, lower_end, upper_end, is_wide_there, wide_falls, wide_within, length-lower, rank_of_ranked, ranked_rank_of, fits_fallen}
 use Rattle.cell_points.proofs.Spreading.{IsStep}
 use Rattle.cell_points.proofs.Unions.{place_total}
@@ -144,3 +146,140 @@ module _ (axis : ℕ) (l : axis < 4) where
 
   pub raised_are : (ps : List Place) → Reaches ps → ArePlaces ps → ArePlaces (raised_all axis ps)
   raised_are ps k h = record { sorted = sorted_raised ps k h.sorted; each = each_raised ps h.each }
+
+  -- ---- the cells of both are the cells and their ends
+
+  module _ (ps all : List Place) (are : ArePlaces ps) (reach : Reaches ps) (all_are : ArePlaces all)
+      (kept : (c : List ℤ) (r : ℕ) → holds_at all c r ≡ (holds_at (map (lowered axis) ps) c r || holds_at (raised_all axis ps) c r)) where
+    place_of : (p : Place) → In ps p → IsPlace p
+    place_of p m = all_at IsPlace ps p are.each m
+
+    -- the cell of a rank that falls
+    fallen_In : (p : Place) (r : ℕ) → In ps p → has_bit (narrowed axis p.mask) r ≡ true → In (cells_of_places ps) (cell_of p.corner (turned (fall_along axis + r)))
+    fallen_In p r m b = flat-In cells_at ps p (cell_of p.corner (turned (fall_along axis + r))) m (ranked_In p (fall_along axis + r) (place_of p m) (narrowed_bit p.mask r b).0)
+
+    rank_few : (p : Place) (r : ℕ) → In ps p → has_bit (narrowed axis p.mask) r ≡ true → r < 16
+    rank_few p r m b = bit_within 16 (narrowed axis p.mask) r (narrowed_few p.mask (place_of p m).small) b
+
+    short : (q : List Factor) (p : Place) → In ps p → length (lower_of q) ≡ length p.corner → length q ≤ 4
+    short q p m e = let s = (place_of p m).short in let k = length-lower q in omega arith
+
+    step_low : (q : List Factor) → At (map (lowered axis) ps) (lower_of q) (rank_of q) → (t : List Factor) × In (cells_of_places ps) t × IsStep axis t q
+    step_low q w =
+        let v = In-map (lowered axis) ps w.0 w.1 in
+        let p : Place = v.0 in
+        let at : p.corner ≡ lower_of q = ap (λ (x : Place). x.corner) v.2 ∙ w.2 in
+        let b : has_bit (bit_or p.mask (narrowed axis p.mask)) (rank_of q) ≡ true = ap (λ (x : Place). has_bit x.mask (rank_of q)) v.2 ∙ w.3 in
+        ⊎_elim
+        (λ t. (q, In_view ps q are (p, v.1, at, t), inl refl))
+        (λ t.
+        let n = narrowed_bit p.mask (rank_of q) t in
+        let s = short q p v.1 (sym (ap length at)) in
+        (cell_of p.corner (turned (fall_along axis + rank_of q)), fallen_In p (rank_of q) v.1 t,
+        inr (is_wide_there axis (rank_of q) p.corner l (rank_few p (rank_of q) v.1 t) (all_at (λ (p : Place). axis < length p.corner) ps p reach v.1) ((place_of p v.1).short) n.1,
+        inl (lower_end axis (rank_of q) p.corner l (rank_few p (rank_of q) v.1 t) (all_at (λ (p : Place). axis < length p.corner) ps p reach v.1) ((place_of p v.1).short) n.1
+        ∙ ap (λ c. cell_of c (turned (rank_of q))) at ∙ ranked_rank_of q s))))
+        (or_cases (has_bit p.mask (rank_of q)) (has_bit (narrowed axis p.mask) (rank_of q)) (sym (has_or p.mask (narrowed axis p.mask) (rank_of q)) ∙ b))
+
+    raised_one : (p z : Place) → In (raised axis p) z → (up_along axis p.corner ≡ z.corner) × (narrowed axis p.mask ≡ z.mask)
+    raised_one p z m = cond_both (eqb (narrowed axis p.mask) 0) [] (record { corner = up_along axis p.corner; mask = narrowed axis p.mask } ∷ [])
+        (λ qs. In qs z → (up_along axis p.corner ≡ z.corner) × (narrowed axis p.mask ≡ z.mask))
+        (λ _ k. absurd k)
+        (λ _ k. ⊎_elim (λ e. (ap (λ (x : Place). x.corner) e, ap (λ (x : Place). x.mask) e)) (λ k. absurd k) k) m
+
+    step_up : (q : List Factor) → At (raised_all axis ps) (lower_of q) (rank_of q) → (t : List Factor) × In (cells_of_places ps) t × IsStep axis t q
+    step_up q w =
+        let v = In-flat (raised axis) ps w.0 w.1 in
+        let p : Place = v.0 in
+        let z = raised_one p w.0 v.2 in
+        let at : up_along axis p.corner ≡ lower_of q = z.0 ∙ w.2 in
+        let t : has_bit (narrowed axis p.mask) (rank_of q) ≡ true = ap (λ m. has_bit m (rank_of q)) z.1 ∙ w.3 in
+        let n = narrowed_bit p.mask (rank_of q) t in
+        let s = short q p v.1 (sym (ap length at) ∙ length-set p.corner axis (get_or p.corner axis (pos 0) +ℤ pos 1)) in
+        let h = all_at (λ (p : Place). axis < length p.corner) ps p reach v.1 in
+        (cell_of p.corner (turned (fall_along axis + rank_of q)), fallen_In p (rank_of q) v.1 t,
+        inr (is_wide_there axis (rank_of q) p.corner l (rank_few p (rank_of q) v.1 t) h ((place_of p v.1).short) n.1,
+        inr (upper_end axis (rank_of q) p.corner l (rank_few p (rank_of q) v.1 t) h ((place_of p v.1).short) n.1
+        ∙ ap (λ c. cell_of c (turned (rank_of q))) at ∙ ranked_rank_of q s)))
+
+    pub step_from : (q : List Factor) → In (cells_of_places all) q → (t : List Factor) × In (cells_of_places ps) t × IsStep axis t q
+    step_from q m =
+        let w = view_In all q all_are m in
+        ⊎_elim
+        (λ h. step_low q (At-holds (map (lowered axis) ps) (lower_of q) (rank_of q) h))
+        (λ h. step_up q (At-holds (raised_all axis ps) (lower_of q) (rank_of q) h))
+        (or_cases (holds_at (map (lowered axis) ps) (lower_of q) (rank_of q)) (holds_at (raised_all axis ps) (lower_of q) (rank_of q))
+        (sym (kept (lower_of q) (rank_of q)) ∙ holds-At all (lower_of q) (rank_of q) w))
+
+    all_low : (q : List Factor) → At (map (lowered axis) ps) (lower_of q) (rank_of q) → In (cells_of_places all) q
+    all_low q w = In_view all q all_are (At-holds all (lower_of q) (rank_of q) (kept (lower_of q) (rank_of q)
+        ∙ or_first (holds_at (map (lowered axis) ps) (lower_of q) (rank_of q)) (holds_at (raised_all axis ps) (lower_of q) (rank_of q)) (holds-At (map (lowered axis) ps) (lower_of q) (rank_of q) w)))
+
+    all_up : (q : List Factor) → At (raised_all axis ps) (lower_of q) (rank_of q) → In (cells_of_places all) q
+    all_up q w = In_view all q all_are (At-holds all (lower_of q) (rank_of q) (kept (lower_of q) (rank_of q)
+        ∙ or_second (holds_at (map (lowered axis) ps) (lower_of q) (rank_of q)) (holds_at (raised_all axis ps) (lower_of q) (rank_of q)) (holds-At (raised_all axis ps) (lower_of q) (rank_of q) w)))
+
+    -- what falls of a cell with an interval along the axis
+    record Fallen (t : List Factor) : Type 0 where
+      place : Place
+      there : In ps place
+      corner : place.corner ≡ lower_of t
+      rank : ℕ
+      few : rank < 16
+      bit : has_bit (narrowed axis place.mask) rank ≡ true
+      wide : has_bit (wide_along axis) (fall_along axis + rank) ≡ true
+      is : t ≡ cell_of place.corner (turned (fall_along axis + rank))
+
+    fallen : (t : List Factor) → In (cells_of_places ps) t → is_wide (factor_at t axis) ≡ true → Fallen t
+    fallen t m w =
+        let v = view_In ps t are m in
+        let p : Place = v.0 in
+        let s : length t ≤ 4 = short t p v.1 (sym (ap length v.2)) in
+        let is : cell_of p.corner (turned (rank_of t)) ≡ t = ap (λ c. cell_of c (turned (rank_of t))) v.2 ∙ ranked_rank_of t s in
+        let f = wide_falls axis (rank_of t) p.corner l (turned_few (axes_of t)) (all_at (λ (p : Place). axis < length p.corner) ps p reach v.1) (ap (λ q. is_wide (factor_at q axis)) is ∙ w) in
+        let k : rank_of t < 16 = turned_few (axes_of t) in
+        let b : has_bit p.mask (fall_along axis + f.0) ≡ true = ap (has_bit p.mask) (sym f.1) ∙ v.3 in
+        record {
+          place = p; there = v.1; corner = v.2; rank = f.0;
+          few = omega (arith, f.1);
+          bit = has_narrowed axis p.mask f.0 ∙ both_hold (has_bit p.mask (fall_along axis + f.0)) (has_bit (wide_along axis) (fall_along axis + f.0)) b f.2;
+          wide = f.2;
+          is = sym is ∙ ap (λ r. cell_of p.corner (turned r)) f.1;
+        }
+
+    low_end_In : (t : List Factor) → Fallen t → In (cells_of_places all) (with_end axis (pos 0) t)
+    low_end_In t f =
+        let p = f.place in
+        let h = all_at (λ (p : Place). axis < length p.corner) ps p reach f.there in
+        let e : with_end axis (pos 0) t ≡ cell_of p.corner (turned f.rank) = ap (with_end axis (pos 0)) f.is ∙ lower_end axis f.rank p.corner l f.few h ((place_of p f.there).short) f.wide in
+        let fits = narrowed_fits p (place_of p f.there) f.rank f.bit in
+        subst (λ (q : List Factor). In (cells_of_places all) q) (sym e)
+        (all_low (cell_of p.corner (turned f.rank)) (lowered axis p, map-In (lowered axis) ps p f.there, sym (lower-cell_of p.corner (turned f.rank)),
+        ap (has_bit (bit_or p.mask (narrowed axis p.mask))) (rank_of_ranked p.corner f.rank f.few fits)
+        ∙ has_or p.mask (narrowed axis p.mask) f.rank ∙ or_second (has_bit p.mask f.rank) (has_bit (narrowed axis p.mask) f.rank) f.bit))
+
+    raised_In : (p : Place) (r : ℕ) → has_bit (narrowed axis p.mask) r ≡ true → In (raised axis p) (record { corner = up_along axis p.corner; mask = narrowed axis p.mask })
+    raised_In p r b = cond_both (eqb (narrowed axis p.mask) 0) [] (record { corner = up_along axis p.corner; mask = narrowed axis p.mask } ∷ [])
+        (λ qs. In qs (record { corner = up_along axis p.corner; mask = narrowed axis p.mask }))
+        (λ z. absurd (true≢false (sym b ∙ ap (λ m. has_bit m r) (eqb-true (narrowed axis p.mask) 0 z) ∙ ap (λ x. eqb x 1) (bit_at-zero r))))
+        (λ _. inl refl)
+
+    up_end_In : (t : List Factor) → Fallen t → In (cells_of_places all) (with_end axis (pos 1) t)
+    up_end_In t f =
+        let p = f.place in
+        let z : Place = record { corner = up_along axis p.corner; mask = narrowed axis p.mask } in
+        let h = all_at (λ (p : Place). axis < length p.corner) ps p reach f.there in
+        let e : with_end axis (pos 1) t ≡ cell_of (up_along axis p.corner) (turned f.rank) = ap (with_end axis (pos 1)) f.is ∙ upper_end axis f.rank p.corner l f.few h ((place_of p f.there).short) f.wide in
+        let fits = (raised_place p (place_of p f.there)).fits f.rank f.bit in
+        subst (λ (q : List Factor). In (cells_of_places all) q) (sym e)
+        (all_up (cell_of (up_along axis p.corner) (turned f.rank)) (z, flat-In (raised axis) ps p z f.there (raised_In p f.rank f.bit), sym (lower-cell_of (up_along axis p.corner) (turned f.rank)),
+        ap (has_bit (narrowed axis p.mask)) (rank_of_ranked (up_along axis p.corner) f.rank f.few fits) ∙ f.bit))
+
+    pub step_to : (t q : List Factor) → In (cells_of_places ps) t → IsStep axis t q → In (cells_of_places all) q
+    step_to t q m (inl e) =
+        let v = view_In ps t are m in
+        subst (λ (q : List Factor). In (cells_of_places all) q) e
+        (all_low t (lowered axis v.0, map-In (lowered axis) ps v.0 v.1, v.2,
+        has_or v.0.mask (narrowed axis v.0.mask) (rank_of t) ∙ or_first (has_bit v.0.mask (rank_of t)) (has_bit (narrowed axis v.0.mask) (rank_of t)) v.3))
+    step_to t q m (inr (w, inl e)) = subst (λ (q : List Factor). In (cells_of_places all) q) e (low_end_In t (fallen t m w))
+    step_to t q m (inr (w, inr e)) = subst (λ (q : List Factor). In (cells_of_places all) q) e (up_end_In t (fallen t m w))

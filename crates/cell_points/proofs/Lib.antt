@@ -7,3 +7,4 @@ mod Views
 mod Counting
 mod Unions
 mod Closing
+mod Edges

@@ -1,11 +1,10 @@
 use Rattle.std.proofs.Common.{◌≡◌, ◌++◌, ◌≤◌, ◌⊎◌, length, inl, inr, arith, sym}
 use Rattle.cell_points.proofs.Unions.{Merged, at_less, at_equal, at_greater, at_end}
 use Rattle.cell_points.proofs.places.union.Goals as goal
-use Rattle.cell_points.proofs.places.union.Goals.{then-merge-test+else-j-right, else-merge-test}
 
 pub merge-preserved-in-Less : goal.merge-preserved-in-Less
 merge-preserved-in-Less c = record {
-  merging = rw c.in_ok-push.ensures.items
+  merging = rw c.in_ok-push-in-Less.ensures.items
       (at_less c.args.left.now c.args.right.now c.merge.all.items c.merge.i c.merge.j _ _ c.merge-test.true c.if-j-right.true c.index-left-i.is c.index-right-j.is c.merge.invariant.merging (sym c.in-Less.ensures));
   left = omega arith;
   right = omega arith;
