@@ -15,6 +15,7 @@ use Rattle.elem_cubes.specs.KeepingLemmas.{lower-cell_of, length-cell_of, axes-c
 use Rattle.elem_cubes.specs.Walks.{factor_at}
 use Rattle.std.proofs.Math.Nat.{pow-suc}
 use Rattle.std.proofs.lemmas.Int.{ints}
+use Rattle.std.proofs.lemmas.Nat.Bits.{bit_at_above}
 use Rattle.std.proofs.lemmas.Bool.Decides.{nat_tests}
 use Rattle.elem_cubes.proofs.Uppers.{uppers_greater}
 use Rattle.elem_cubes.proofs.Bits.{wide_at, cell_set, parts_of_cell}
@@ -219,3 +220,11 @@ wide_within (f ∷ fs) (suc axis) w = let h = wide_within fs axis w in omega ari
 
 pub fits_fallen : (axis r : ℕ) → axis < 4 → r < 16 → has_bit (wide_along axis) (fall_along axis + r) ≡ true → turned r ≤ turned (fall_along axis + r)
 fits_fallen axis r l k w = (falls_at axis r l k w).less
+
+-- where its rank is one of the corner's, a cell with an interval along the axis has the axis
+pub wide_of : (axis r : ℕ) (ls : List ℤ) → axis < 4 → r < 16 → turned (fall_along axis + r) < 2 ^ length ls → has_bit (wide_along axis) (fall_along axis + r) ≡ true
+    → is_wide (factor_at (cell_of ls (turned (fall_along axis + r))) axis) ≡ true
+wide_of axis r ls l k fits w =
+    let f = falls_at axis r l k w in
+    let s : axis < length ls = ⊎_elim (λ lt. lt) (λ ge. absurd (let z = bit_at_above (turned (fall_along axis + r)) (length ls) axis fits ge in let o = f.high in omega arith)) (cases_lt axis (length ls)) in
+    sym (wide_at ls (turned (fall_along axis + r)) axis (point (pos 0)) s) ∙ ap (λ n. eqb n 1) f.high

@@ -30,3 +30,6 @@ edge_upper (l ∷ ls) (suc n) h =
     let e : 2 ^ suc n % 2 ≡ 0 = omega (arith, pow-suc 2 n) in
     let d : 2 ^ suc n / 2 ≡ 2 ^ n = omega (arith, pow-suc 2 n) in
     (λ i. high (if eqb (e i) 1 then interval l else point l) ∷ upper_of (cell_of ls (d i))) ∙ ap (λ k. l ∷ k) (edge_upper ls n (omega arith))
+
+pub same_some : {A : Type 0} (o : Option A) (x y : A) → o ≡ Some x → o ≡ Some y → x ≡ y
+same_some o x y e f = cc

@@ -8,3 +8,4 @@ mod Counting
 mod Unions
 mod Closing
 mod Edges
+mod Closed

@@ -10,7 +10,7 @@ ghost use Rattle.cell_points.specs.Places.{ArePlaces, CanRise, cells_at, cells_o
 
 use crate::mask::{narrowed, rank_of};
 use crate::place::Place;
-use elem_cubes::{Cell, Corner};
+use elem_cubes::{Cell, Corner, MAX_EMBEDDING};
 use std::alloc::{AllocError, Global};
 use std::cmp::Ordering;
 
@@ -179,6 +179,7 @@ pub(crate) fn closed(
     places: Vec<Place>,
     axes: usize,
 ) -> Result<Vec<Place>, AllocError>
+    requires axes { axes ≤ MAX_EMBEDDING }
     requires are { ArePlaces places.items }
     requires alike { list_all (is_member axes) (cells_of_places places.items) ≡ true }
     ensures are { IfOk result (λ all. ArePlaces all.items) }
