@@ -9,3 +9,4 @@ mod Unions
 mod Closing
 mod Edges
 mod Closed
+mod Grouping

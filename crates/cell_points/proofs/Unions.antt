@@ -139,7 +139,7 @@ both_place x y e h k = record {
       (or_cases (has_bit x.mask r) (has_bit y.mask r) (sym (has_or x.mask y.mask r) ∙ b));
 }
 
-replaced_are : (out xs : List Place) (x z : Place) → z.corner ≡ x.corner → IsPlace z → ArePlaces (out ++ x ∷ xs) → ArePlaces (out ++ z ∷ xs)
+pub replaced_are : (out xs : List Place) (x z : Place) → z.corner ≡ x.corner → IsPlace z → ArePlaces (out ++ x ∷ xs) → ArePlaces (out ++ z ∷ xs)
 replaced_are out xs x z e h are = record {
   sorted = sorted_replaced place_cmp place_total out xs x z (λ w. ap (corner_cmp w.corner) e) (λ w. ap (λ c. corner_cmp c w.corner) e) are.sorted;
   each = all_append IsPlace out (z ∷ xs) (all_left IsPlace out (x ∷ xs) are.each) (h, (all_right IsPlace out (x ∷ xs) are.each).1);

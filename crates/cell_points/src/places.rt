@@ -47,11 +47,12 @@ pub(crate) fn places_of(alloc: Global, cells: &[Cell]) -> Result<Vec<Place>, All
     let mut open = place_of(&cells[0]);
     for i in 1..cells.len() {
         let cell = cells[i];
-        if cell.lower() == open.corner {
-            open = joined(&open, &cell);
-        } else {
-            places.push(open)?;
-            open = place_of(&cell);
+        match open.corner.cmp(&cell.lower()) {
+            Ordering::Equal => open = joined(&open, &cell),
+            _ => {
+                places.push(open)?;
+                open = place_of(&cell);
+            }
         }
     }
     places.push(open)?;
