@@ -12,6 +12,7 @@ use Rattle.std.proofs.lemmas.Bool.{or_cases, eqb-true, eq-eqb}
 use Rattle.std.proofs.lemmas.Cmp.{lists_total, int_cmp_total}
 use Rattle.std.proofs.lemmas.Nat.{or_lt, pow_below}
 use Rattle.std.proofs.lemmas.Nat.Bits.{bit_at-pow_same, bit_at-pow_other, bit_at-zero}
+use Rattle.std.proofs.lemmas.List.{take_more, get_or_default}
 use Rattle.std.proofs.lemmas.Map.Keys.{Less-from_sorted}
 use Rattle.elem_cubes.specs.Corners.{corner_cmp}
 use Rattle.elem_cubes.specs.Cells.{Factor, lower_of, upper_of, axes_of, cell_of}
@@ -76,10 +77,10 @@ is_one_itself : (q : List Factor) → is_one q (lower_of q) (rank_of q) ≡ true
 is_one_itself q = rw (tied_itself (lists_total int_cmp_total) (lower_of q), own_bit (rank_of q)) refl
 
 -- what is grouped so far: closed groups and an open one
-pub record IsGrouped (cells : List (List Factor)) (places : List Place) (open : Place) : Type 0 where
-  pub are : ArePlaces (places ++ open ∷ [])
-  pub from : (q : List Factor) → In (cells_of_places (places ++ open ∷ [])) q → In cells q
-  pub to : (q : List Factor) → In cells q → In (cells_of_places (places ++ open ∷ [])) q
+pub record IsGrouped (cells : List (List Factor)) (places : List Place) (group : Place) : Type 0 where
+  pub are : ArePlaces (places ++ group ∷ [])
+  pub from : (q : List Factor) → In (cells_of_places (places ++ group ∷ [])) q → In cells q
+  pub to : (q : List Factor) → In cells q → In (cells_of_places (places ++ group ∷ [])) q
 
 or_one : (a b : Bool) → a ≡ true → (a || b) ≡ true
 or_one true b h = refl
@@ -120,41 +121,41 @@ join_bits false true false false = refl
 join_bits false false a b = refl
 
 -- the cell has the corner of the open group
-pub group_joined : (cells : List (List Factor)) (places : List Place) (open : Place) (q : List Factor) → length q ≤ 4 → open.corner ≡ lower_of q → IsGrouped cells places open
-    → IsGrouped (cells ++ q ∷ []) places (with_cell q open.mask)
-group_joined cells places open q l e g =
-    let o : IsPlace open = (all_right IsPlace places (open ∷ []) g.are.each).0 in
-    let z : IsPlace (with_cell q open.mask) = with_cell_place q open.mask l o.small (λ r b. subst (λ (c : List ℤ). turned r < 2 ^ length c) e (o.fits r b)) in
-    let are = replaced_are places [] open (with_cell q open.mask) (sym e) z g.are in
-    let k = grown cells (places ++ open ∷ []) (places ++ with_cell q open.mask ∷ []) q l g.are are
-    (λ c r. holds-append places (with_cell q open.mask ∷ []) c r
-    ∙ ap (λ b. holds_at places c r || ((is_eq (corner_cmp (lower_of q) c) && b) || false)) (has_or open.mask (2 ^ rank_of q) r)
-    ∙ join_bits (holds_at places c r) (is_eq (corner_cmp (lower_of q) c)) (has_bit open.mask r) (has_bit (2 ^ rank_of q) r)
-    ∙ ap (λ d. (holds_at places c r || ((is_eq (corner_cmp d c) && has_bit open.mask r) || false)) || is_one q c r) (sym e)
-    ∙ ap (λ b. b || is_one q c r) (sym (holds-append places (open ∷ []) c r)))
+pub group_joined : (cells : List (List Factor)) (places : List Place) (group : Place) (q : List Factor) → length q ≤ 4 → group.corner ≡ lower_of q → IsGrouped cells places group
+    → IsGrouped (cells ++ q ∷ []) places (with_cell q group.mask)
+group_joined cells places group q l e g =
+    let o : IsPlace group = (all_right IsPlace places (group ∷ []) g.are.each).0 in
+    let z : IsPlace (with_cell q group.mask) = with_cell_place q group.mask l o.small (λ r b. subst (λ (c : List ℤ). turned r < 2 ^ length c) e (o.fits r b)) in
+    let are = replaced_are places [] group (with_cell q group.mask) (sym e) z g.are in
+    let k = grown cells (places ++ group ∷ []) (places ++ with_cell q group.mask ∷ []) q l g.are are
+    (λ c r. holds-append places (with_cell q group.mask ∷ []) c r
+    ∙ ap (λ b. holds_at places c r || ((is_eq (corner_cmp (lower_of q) c) && b) || false)) (has_or group.mask (2 ^ rank_of q) r)
+    ∙ join_bits (holds_at places c r) (is_eq (corner_cmp (lower_of q) c)) (has_bit group.mask r) (has_bit (2 ^ rank_of q) r)
+    ∙ ap (λ d. (holds_at places c r || ((is_eq (corner_cmp d c) && has_bit group.mask r) || false)) || is_one q c r) (sym e)
+    ∙ ap (λ b. b || is_one q c r) (sym (holds-append places (group ∷ []) c r)))
     g.from g.to in
     record { are = are; from = k.0; to = k.1 }
 
-sorted_push : (places : List Place) (open z : Place) → IsStrictlySortedBy place_cmp (places ++ open ∷ []) → place_cmp open z ≡ Less → IsStrictlySortedBy place_cmp ((places ++ open ∷ []) ++ z ∷ [])
+sorted_push : (places : List Place) (group z : Place) → IsStrictlySortedBy place_cmp (places ++ group ∷ []) → place_cmp group z ≡ Less → IsStrictlySortedBy place_cmp ((places ++ group ∷ []) ++ z ∷ [])
 unfolding IsStrictlySortedBy
-sorted_push [] open z h e = ((e, tt), (tt, tt))
-sorted_push (p ∷ ps) open z h e =
+sorted_push [] group z h e = ((e, tt), (tt, tt))
+sorted_push (p ∷ ps) group z h e =
     let P : Place → Type 0 = λ y. place_cmp p y ≡ Less in
-    let o : place_cmp p open ≡ Less = (all_right P ps (open ∷ []) h.0).0 in
-    (all_append P (ps ++ open ∷ []) (z ∷ []) h.0 (place_total.trans p open z o e, tt), sorted_push ps open z h.1 e)
+    let o : place_cmp p group ≡ Less = (all_right P ps (group ∷ []) h.0).0 in
+    (all_append P (ps ++ group ∷ []) (z ∷ []) h.0 (place_total.trans p group z o e, tt), sorted_push ps group z h.1 e)
 
 -- the cell has a higher corner
-pub group_opened : (cells : List (List Factor)) (places : List Place) (open : Place) (q : List Factor) → length q ≤ 4 → corner_cmp open.corner (lower_of q) ≡ Less → IsGrouped cells places open
-    → IsGrouped (cells ++ q ∷ []) (places ++ open ∷ []) (with_cell q 0)
-group_opened cells places open q l e g =
-    let are : ArePlaces ((places ++ open ∷ []) ++ with_cell q 0 ∷ []) = record {
-      sorted = sorted_push places open (with_cell q 0) g.are.sorted e;
-      each = all_append IsPlace (places ++ open ∷ []) (with_cell q 0 ∷ []) g.are.each (one_place q l, tt);
+pub group_opened : (cells : List (List Factor)) (places : List Place) (group : Place) (q : List Factor) → length q ≤ 4 → corner_cmp group.corner (lower_of q) ≡ Less → IsGrouped cells places group
+    → IsGrouped (cells ++ q ∷ []) (places ++ group ∷ []) (with_cell q 0)
+group_opened cells places group q l e g =
+    let are : ArePlaces ((places ++ group ∷ []) ++ with_cell q 0 ∷ []) = record {
+      sorted = sorted_push places group (with_cell q 0) g.are.sorted e;
+      each = all_append IsPlace (places ++ group ∷ []) (with_cell q 0 ∷ []) g.are.each (one_place q l, tt);
     } in
-    let k = grown cells (places ++ open ∷ []) ((places ++ open ∷ []) ++ with_cell q 0 ∷ []) q l g.are are
-    (λ c r. holds-append (places ++ open ∷ []) (with_cell q 0 ∷ []) c r
-    ∙ ap (λ b. holds_at (places ++ open ∷ []) c r || ((is_eq (corner_cmp (lower_of q) c) && b) || false)) (has_or 0 (2 ^ rank_of q) r ∙ ap (λ b. b || has_bit (2 ^ rank_of q) r) (ap (λ x. eqb x 1) (bit_at-zero r)))
-    ∙ ap (λ b. holds_at (places ++ open ∷ []) c r || b) (or_nothing (is_one q c r)))
+    let k = grown cells (places ++ group ∷ []) ((places ++ group ∷ []) ++ with_cell q 0 ∷ []) q l g.are are
+    (λ c r. holds-append (places ++ group ∷ []) (with_cell q 0 ∷ []) c r
+    ∙ ap (λ b. holds_at (places ++ group ∷ []) c r || ((is_eq (corner_cmp (lower_of q) c) && b) || false)) (has_or 0 (2 ^ rank_of q) r ∙ ap (λ b. b || has_bit (2 ^ rank_of q) r) (ap (λ x. eqb x 1) (bit_at-zero r)))
+    ∙ ap (λ b. holds_at (places ++ group ∷ []) c r || b) (or_nothing (is_one q c r)))
     g.from g.to in
     record { are = are; from = k.0; to = k.1 }
 
@@ -178,11 +179,11 @@ group_first q l =
     (λ s m. absurd m) (λ s m. absurd m) in
     record { are = are; from = k.0; to = k.1 }
 
-pub grouped_all : (cells : List (List Factor)) (places : List Place) (open : Place) → IsStrictlySortedBy cell_cmp cells → IsGrouped cells places open → cells_of_places (places ++ open ∷ []) ≡ cells
-grouped_all cells places open s g = same_sets (cells_of_places (places ++ open ∷ [])) cells (sorted_cells (places ++ open ∷ []) g.are) s
-    (λ q. both_ways (has cell_cmp (cells_of_places (places ++ open ∷ [])) q) (has cell_cmp cells q)
-    (λ h. In_has cells q (g.from q (has_In (cells_of_places (places ++ open ∷ [])) q h)))
-    (λ h. In_has (cells_of_places (places ++ open ∷ [])) q (g.to q (has_In cells q h))))
+pub grouped_all : (cells : List (List Factor)) (places : List Place) (group : Place) → IsStrictlySortedBy cell_cmp cells → IsGrouped cells places group → cells_of_places (places ++ group ∷ []) ≡ cells
+grouped_all cells places group s g = same_sets (cells_of_places (places ++ group ∷ [])) cells (sorted_cells (places ++ group ∷ []) g.are) s
+    (λ q. both_ways (has cell_cmp (cells_of_places (places ++ group ∷ [])) q) (has cell_cmp cells q)
+    (λ h. In_has cells q (g.from q (has_In (cells_of_places (places ++ group ∷ [])) q h)))
+    (λ h. In_has (cells_of_places (places ++ group ∷ [])) q (g.to q (has_In cells q h))))
 
 abbrev is_less : Ordering → Bool
 is_less Less = true
@@ -202,3 +203,46 @@ higher_corner cells c i s l k e n =
     ap (λ d. corner_cmp d (lower_of (cell_at cells i))) e
     ∙ corners_of (corner_cmp (lower_of (cell_at cells (i - 1))) (lower_of (cell_at cells i))) (corner_cmp (upper_of (cell_at cells (i - 1))) (upper_of (cell_at cells i))) less
     (λ h. n (ap (λ d. corner_cmp d (lower_of (cell_at cells i))) e ∙ h))
+
+-- ---- the same at a place of the cells
+
+one_taken : (cells : List (List Factor)) (i : ℕ) (q : List Factor) → i < length cells → q ≡ get_or cells i q → take (i + 1) cells ≡ take i cells ++ q ∷ []
+one_taken cells i q l e = take_more cells i q l ∙ ap (λ s. take i cells ++ s ∷ []) (sym e)
+
+at_place : (cells : List (List Factor)) (i : ℕ) (q : List Factor) → i < length cells → q ≡ get_or cells i q → q ≡ cell_at cells i
+at_place cells i q l e = e ∙ get_or_default cells i q [] l
+
+last_corner : (cells : List (List Factor)) (i : ℕ) (q : List Factor) (group : Place) → i < length cells → q ≡ get_or cells i q → group.corner ≡ lower_of q → group.corner ≡ lower_of (cell_at cells (i + 1 - 1))
+last_corner cells i q group l e h = h ∙ ap lower_of (at_place cells i q l e) ∙ ap (λ j. lower_of (cell_at cells j)) (let s : i ≡ i + 1 - 1 = omega arith in s)
+
+module _ (cells : List (List Factor)) (i : ℕ) (q : List Factor) (places : List Place) (group next : Place) (l : i < length cells) (e : q ≡ get_or cells i q) (few : length q ≤ 4) (g : IsGrouped (take i cells) places group) where
+  pub step_joined : corner_cmp group.corner (lower_of q) ≡ Equal → next ≡ with_cell q group.mask → IsGrouped (take (i + 1) cells) places next × (next.corner ≡ lower_of (cell_at cells (i + 1 - 1)))
+  step_joined o n = (
+    subst (λ (z : Place). IsGrouped (take (i + 1) cells) places z) (sym n)
+        (subst (λ (qs : List (List Factor)). IsGrouped qs places (with_cell q group.mask)) (sym (one_taken cells i q l e))
+        (group_joined (take i cells) places group q few (tied_lists group.corner (lower_of q) o) g)),
+    last_corner cells i q next l e (ap (λ (z : Place). z.corner) n),
+  )
+
+  pub step_opened : IsStrictlySortedBy cell_cmp cells → 1 ≤ i → group.corner ≡ lower_of (cell_at cells (i - 1)) → (corner_cmp group.corner (lower_of q) ≡ Equal → ⊥) → next ≡ with_cell q 0
+      → IsGrouped (take (i + 1) cells) (places ++ group ∷ []) next × (next.corner ≡ lower_of (cell_at cells (i + 1 - 1)))
+  step_opened s some last o n =
+      let at = at_place cells i q l e in
+      let less : corner_cmp group.corner (lower_of q) ≡ Less = ap (λ t. corner_cmp group.corner (lower_of t)) at
+      ∙ higher_corner cells group.corner i s some l last (λ h. o (ap (λ t. corner_cmp group.corner (lower_of t)) at ∙ h)) in
+      (subst (λ (z : Place). IsGrouped (take (i + 1) cells) (places ++ group ∷ []) z) (sym n)
+      (subst (λ (qs : List (List Factor)). IsGrouped qs (places ++ group ∷ []) (with_cell q 0)) (sym (one_taken cells i q l e))
+      (group_opened (take i cells) places group q few less g)),
+      last_corner cells i q next l e (ap (λ (z : Place). z.corner) n))
+
+pub step_first : (cells : List (List Factor)) (q : List Factor) (group : Place) → 0 < length cells → q ≡ get_or cells 0 q → length q ≤ 4 → group ≡ with_cell q 0
+    → IsGrouped (take 1 cells) [] group × (group.corner ≡ lower_of (cell_at cells 0))
+step_first cells q group l e few n = (
+  subst (λ (z : Place). IsGrouped (take 1 cells) [] z) (sym n)
+      (subst (λ (qs : List (List Factor)). IsGrouped qs [] (with_cell q 0)) (sym (one_taken cells 0 q l e)) (group_first q few)),
+  ap (λ (z : Place). z.corner) n ∙ ap lower_of (at_place cells 0 q l e),
+)
+
+pub some_cells : {X : Type 0} (xs : List X) → eqb (length xs) 0 ≡ false → 0 < length xs
+some_cells [] e = absurd (true≢false e)
+some_cells (x ∷ xs) e = omega arith

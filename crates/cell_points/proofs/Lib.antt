@@ -10,3 +10,4 @@ mod Closing
 mod Edges
 mod Closed
 mod Grouping
+mod Searching

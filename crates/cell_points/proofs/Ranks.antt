@@ -184,3 +184,25 @@ length-mask m l = length-ranks 16 0 m l
 pub mask_place : (m x d : ℕ) → x < 16 → has_bit m x ≡ true → get_or (ranks_of m) (count_ones (m % 2 ^ x)) d ≡ x
 unfolding ranks_of
 mask_place m x d l h = let e : 0 + x ≡ x = omega arith in rank_place 16 0 m x d l h ∙ e
+
+ones_front : (m k : ℕ) → count_ones (m % 2 ^ suc k) ≡ count_ones (m / 2 % 2 ^ k) + m % 2
+ones_front m k =
+    let p : m % 2 ^ suc k ≡ (m / 2 % 2 ^ k) * 2 ^ 1 + m % 2 = let e : suc k ≡ k + 1 = omega arith in ap (λ j. m % 2 ^ j) e ∙ mod-pow-add m k 1 in
+    ap count_ones p ∙ ones_cat 1 (m / 2 % 2 ^ k) (m % 2) (omega arith) ∙ ap (λ x. count_ones (m / 2 % 2 ^ k) + x) (ones_small (m % 2) (omega arith))
+
+-- one more rank
+pub ones_next : (m r : ℕ) → count_ones (m % 2 ^ (r + 1)) ≡ count_ones (m % 2 ^ r) + bit_at m r
+ones_next m zero =
+    let a : m % 2 ^ (0 + 1) ≡ m % 2 = refl in
+    let b : m % 2 ^ 0 ≡ 0 = omega arith in
+    let c : count_ones (m % 2 ^ 0) ≡ 0 = ap count_ones b ∙ ones_small 0 (omega arith) in
+    let d = bit_at_lowest m in
+    let e : count_ones (m % 2 ^ (0 + 1)) ≡ m % 2 = ones_small (m % 2) (omega arith) in
+    omega arith
+ones_next m (suc r) =
+    let rest = ones_next (m / 2) r in
+    let a = ones_front m r in
+    let b = ones_front m (r + 1) in
+    let d = bit_at-suc m r in
+    let s : suc r + 1 ≡ suc (r + 1) = omega arith in
+    ap (λ k. count_ones (m % 2 ^ k)) s ∙ (omega arith)

@@ -77,3 +77,18 @@ holds_at places c r = list_any (λ p. is_eq (corner_cmp p.corner c) && has_bit p
 -- the place at the corner of the cell, with that cell and those of a mask
 abbrev pub with_cell : List Factor → ℕ → Place
 with_cell q mask = record { corner = lower_of q; mask = bit_or mask (2 ^ rank_of q) }
+
+-- the place of a number; past the end one without cells
+abbrev pub place_at : List Place → ℕ → Place
+place_at places i = slice_index_or places i (record { corner = []; mask = 0 })
+
+-- the place stands at this number, and has this corner
+pub record IsPlaceOf (places : List Place) (c : List ℤ) (i : ℕ) : Type 0 where
+  pub within : i < length places
+  pub corner : (place_at places i).corner ≡ c
+
+-- of ascending numbers this is the last that is not above
+pub record IsLastFrom (firsts : List ℕ) (number place : ℕ) : Type 0 where
+  pub within : place < length firsts
+  pub below : slice_index_or firsts place 0 ≤ number
+  pub above : place + 1 < length firsts → number < slice_index_or firsts (place + 1) 0

@@ -6,6 +6,7 @@ mod mask;
 mod place;
 mod places;
 mod points;
+mod search;
 
 pub use fault::PointsFault;
 pub use points::Points;

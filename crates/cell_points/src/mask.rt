@@ -1,5 +1,6 @@
 //! Masks of the cells at a corner.
-ghost use Rattle.std.specs.Prelude.{◌≡◌, ◌<◌, ◌≤◌, length, slice_index_or};
+ghost use Rattle.std.specs.Prelude.{◌≡◌, ◌<◌, ◌%◌, ◌^◌, true};
+ghost use Rattle.std.specs.Int.RustNames.{count_ones};
 ghost use Rattle.cell_points.specs.Masks.{turned, has_bit, ranks_of, wide_along, fall_along, narrowed};
 ghost use Rattle.cell_points.specs.Places.{rank_of};
 
@@ -60,4 +61,31 @@ pub(crate) fn narrowed(axis: usize, mask: u16) -> u16
     ensures { result ≡ narrowed axis mask }
 {
     (mask & wide_along(axis)) >> fall_along(axis)
+}
+
+/// How many ranks of the mask are below one.
+pub(crate) fn ranks_below(mask: u16, rank: u8) -> u32
+    requires { rank < 16 }
+    ensures { result ≡ count_ones (mask % 2 ^ rank) }
+{
+    (mask & ((1 << rank) - 1)).count_ones()
+}
+
+/// The rank of the mask that has so many of its ranks below it.
+pub(crate) fn rank_at(mask: u16, below: u32) -> u8
+    requires { below < count_ones mask }
+    ensures few { result < 16 }
+    ensures bit { has_bit mask result ≡ true }
+    ensures place { count_ones (mask % 2 ^ result) ≡ below }
+{
+    let mut left = below;
+    for rank in 0..16 {
+        if has_bit(mask, rank) {
+            if left == 0 {
+                return rank;
+            }
+            left -= 1;
+        }
+    }
+    0
 }

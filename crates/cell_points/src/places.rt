@@ -16,8 +16,11 @@ use std::cmp::Ordering;
 
 // The place of one cell.
 fn place_of(cell: &Cell) -> Place
-    ensures { result ≡ with_cell cell.now 0 }
+    ensures place { result ≡ with_cell cell.now 0 }
+    ensures few { length cell.now ≤ MAX_EMBEDDING }
 {
+    // Read here so that its length is known to be small.
+    let _ = cell.embedding();
     Place {
         corner: cell.lower(),
         mask: 1 << rank_of(cell),
@@ -26,8 +29,11 @@ fn place_of(cell: &Cell) -> Place
 
 // The place with one more cell at its corner.
 fn joined(place: &Place, cell: &Cell) -> Place
-    ensures { result ≡ with_cell cell.now place.now.mask }
+    ensures place { result ≡ with_cell cell.now place.now.mask }
+    ensures few { length cell.now ≤ MAX_EMBEDDING }
 {
+    // Read here so that its length is known to be small.
+    let _ = cell.embedding();
     Place {
         corner: cell.lower(),
         mask: place.mask | 1 << rank_of(cell),
@@ -44,18 +50,18 @@ pub(crate) fn places_of(alloc: Global, cells: &[Cell]) -> Result<Vec<Place>, All
     if cells.is_empty() {
         return Ok(places);
     }
-    let mut open = place_of(&cells[0]);
+    let mut group = place_of(&cells[0]);
     for i in 1..cells.len() {
         let cell = cells[i];
-        match open.corner.cmp(&cell.lower()) {
-            Ordering::Equal => open = joined(&open, &cell),
+        match group.corner.cmp(&cell.lower()) {
+            Ordering::Equal => group = joined(&group, &cell),
             _ => {
-                places.push(open)?;
-                open = place_of(&cell);
+                places.push(group)?;
+                group = place_of(&cell);
             }
         }
     }
-    places.push(open)?;
+    places.push(group)?;
     Ok(places)
 }
 

@@ -4,31 +4,38 @@ ghost use Rattle.std.specs.List.{Contains};
 ghost use Rattle.elem_cubes.specs.Laws.{cell_at};
 ghost use Rattle.cube_sets.specs.Closures.{cells_of};
 ghost use Rattle.cell_points.specs.Sorted.{IsSortedCells, without};
+ghost use Rattle.cell_points.specs.Places.{ArePlaces, cells_of_places};
 
 use crate::fault::PointsFault;
+use crate::mask::{rank_at, turned};
+use crate::place::Place;
+use crate::places::{closed, count_within, firsts_of, places_of};
+use crate::search::{number_at, place_near, place_of_corner, place_of_number};
 use cube_sets::CubeSet;
 use elem_cubes::Cell;
 use std::alloc::{AllocError, Global};
 use std::marker::Model;
 
 /// Distinct cells in the order of cells, seen as their list: fewer than 2^32, with as many factors
-/// as each other and within the range of the files. The number of a cell is its place, counted from
-/// 0.
+/// as each other and within the range of the files. The number of a cell is its place in that list,
+/// counted from 0. They are kept by their lower corners, each with the mask of the cells at it.
 #[derive(Drop)]
 pub struct Points {
-    cells: Vec<Cell>,
+    places: Vec<Place>,
+    firsts: Vec<u32>,
+    count: u32,
 }
 
 impl Model for Points {
     ghost use Rattle.std.specs.Prelude.{List};
     ghost use Rattle.elem_cubes.specs.Cells.{Factor};
-    ghost use Rattle.cell_points.specs.Sorted.{IsSortedCells};
+    ghost use Rattle.cell_points.specs.Places.{cells_of_places, KeepsPoints};
 
     ghost Value = { List (List Factor) };
 
-    ghost view = { λ s. s.cells.items };
+    ghost view = { λ s. cells_of_places s.places.items };
 
-    ghost invariant = { λ s. IsSortedCells s.cells.items };
+    ghost invariant = { λ s. KeepsPoints s.places.items s.firsts.items s.count };
 }
 
 impl Points {
@@ -39,7 +46,14 @@ impl Points {
         ensures many { result ≡ Err PointsFault.TooMany
             → limit < length (cells_of set.now.cells) }
     {
-        Err(PointsFault::NoMemory)
+        let axes = set.dimension() as usize;
+        let members = places_of(alloc, set.cells())?;
+        let faces = closed(alloc, members, axes)?;
+        let Some(count) = count_within(&faces, limit) else {
+            return Err(PointsFault::TooMany);
+        };
+        let points = Points::of_places(alloc, faces, count)?;
+        Ok(points)
     }
 
     /// Cells that are sorted already.
@@ -47,14 +61,27 @@ impl Points {
         requires { IsSortedCells cells.now }
         ensures { IfOk result (λ points. points ≡ cells.now) }
     {
-        Err(AllocError)
+        let places = places_of(alloc, cells)?;
+        Points::of_places(alloc, places, cells.len() as u32)
     }
 
-    /// The cells that are not among the others. It takes no memory.
-    pub fn without(self, others: &Points) -> Result<Points, AllocError>
-        ensures { IfOk result (λ points. points ≡ without self others.now) }
+    // The cells at these places, so many.
+    fn of_places(
+        alloc: Global,
+        places: Vec<Place>,
+        count: u32,
+    ) -> Result<Points, AllocError>
+        requires are { ArePlaces places.items }
+        requires cells { IsSortedCells (cells_of_places places.items) }
+        requires count { count ≡ length (cells_of_places places.items) }
+        ensures { IfOk result (λ points. points ≡ cells_of_places places.items) }
     {
-        Err(AllocError)
+        let firsts = firsts_of(alloc, &places)?;
+        Ok(Points {
+            places,
+            firsts,
+            count,
+        })
     }
 
     /// How many cells there are.
@@ -62,14 +89,14 @@ impl Points {
         ensures count { result ≡ length self.now }
         ensures sorted { IsSortedCells self.now }
     {
-        self.cells.len() as u32
+        self.count
     }
 
     /// Whether there are none.
     pub fn is_empty(&self) -> bool
         ensures { IsTrue result ↔ (self.now ≡ []) }
     {
-        self.cells.is_empty()
+        self.count == 0
     }
 
     /// The cell of a number below `len`.
@@ -77,7 +104,8 @@ impl Points {
         requires { number < length self.now }
         ensures { result ≡ cell_at self.now number }
     {
-        self.cells[number as usize]
+        let mut near = 0;
+        self.cell_near(number, &mut near)
     }
 
     /// The same, found sooner where the cell stands at the place `near`, or at the next: it becomes
@@ -86,7 +114,13 @@ impl Points {
         requires { number < length self.now }
         ensures { result ≡ cell_at self.now number }
     {
-        self.cell(number)
+        let place = place_of_number(&self.firsts, number, *near as usize);
+        if let Ok(place) = u32::try_from(place) {
+            *near = place;
+        }
+        let here = self.places[place];
+        let rank = rank_at(here.mask, number - self.firsts[place]);
+        Cell::new(here.corner, turned(rank)).unwrap()
     }
 
     /// The number of a cell, or `None` where it is not there.
@@ -94,10 +128,8 @@ impl Points {
         ensures found { IsSome result ↔ Contains self.now cell.now }
         ensures place { IfSome result (λ number. slice_get self.now number ≡ Some cell.now) }
     {
-        let Ok(place) = self.cells.binary_search(cell) else {
-            return None;
-        };
-        Some(place as u32)
+        let place = place_of_corner(&self.places, &cell.lower())?;
+        number_at(&self.places, &self.firsts, cell, place)
     }
 
     /// The same, found sooner where the corner of the cell is that of the place `near`, or of one
@@ -106,6 +138,14 @@ impl Points {
         ensures found { IsSome result ↔ Contains self.now cell.now }
         ensures place { IfSome result (λ number. slice_get self.now number ≡ Some cell.now) }
     {
-        self.number(cell)
+        let corner = cell.lower();
+        let place = match place_near(&self.places, &corner, *near as usize) {
+            Some(place) => place,
+            None => place_of_corner(&self.places, &corner)?,
+        };
+        if let Ok(place) = u32::try_from(place) {
+            *near = place;
+        }
+        number_at(&self.places, &self.firsts, cell, place)
     }
 }

@@ -6,7 +6,7 @@ use Rattle.cell_points.proofs.places.places_of.Given as goal
 
 abbrev pub invariant-loop-i : goal.invariant-loop-i
 invariant-loop-i l = record {
-  grouped : IsGrouped (take l.i l.cells) l.places.items l.open;
-  last : l.open.corner ≡ lower_of (cell_at l.cells (l.i - 1));
+  grouped : IsGrouped (take l.i l.cells) l.places.items l.group;
+  last : l.group.corner ≡ lower_of (cell_at l.cells (l.i - 1));
   some : 1 ≤ l.i;
 }

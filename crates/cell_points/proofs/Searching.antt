@@ -1,0 +1,122 @@
+-- Searches of places, and the numbers of the cells at a place.
+use Rattle.std.proofs.Common.{◌≡◌, ◌≢◌, ℕ, zero, suc, ◌+◌, ◌-◌, ◌*◌, ◌/◌, ◌%◌, ◌^◌, ◌<◌, ◌≤◌, ◌⊎◌, inl, inr, ⊎_elim, refl, sym, ap, ◌∙◌, subst, arith, List, [], ◌∷◌, ◌++◌, length, take, get_or, map, Bool, true, false, eqb, cond, Some}
+use Rattle.std.specs.Prelude.{ℤ, slice_get}
+use Rattle.std.specs.Int.{bit_at}
+use Rattle.std.specs.Int.RustNames.{count_ones}
+use Rattle.std.specs.List.{Contains, flat_map}
+use Rattle.std.specs.List.Sorted.{IsStrictlySortedBy}
+use Rattle.std.specs.declared.cmp.Ordering.{Ordering}
+use Rattle.std.specs.declared.cmp.Ordering.TheVariants.{Less, Equal, Greater}
+use Rattle.std.specs.Ordering.{is_eq}
+use Rattle.std.specs.Cmp.{tied_itself}
+use Rattle.std.proofs.lemmas.Cmp.{lists_total, int_cmp_total}
+use Rattle.std.proofs.lemmas.Bool.{cases_lt, cases_order, true≢false, cond_both, eqb-true}
+use Rattle.std.proofs.lemmas.Nat.{ones_cat, mod-pow-add, and_mask, one_shl, pow_pos}
+use Rattle.std.proofs.lemmas.Nat.Bits.{bit_at-lt}
+use Rattle.std.proofs.lemmas.List.{get_or-map, length-map, get_or_default, get_or_past}
+use Rattle.std.proofs.lemmas.List.Concat.{get_or-flat_map}
+use Rattle.std.proofs.lemmas.Map.Keys.{Less-from_sorted}
+use Rattle.std.proofs.lemmas.Option.{slice_get-get_or}
+use Rattle.elem_cubes.specs.Corners.{corner_cmp}
+use Rattle.elem_cubes.specs.Cells.{Factor, lower_of, cell_of}
+use Rattle.elem_cubes.specs.Laws.{cell_at}
+use Rattle.elem_cubes.proofs.Members.{In, In-from, from-In}
+use Rattle.cube_sets.proofs.Merging.{above, above'}
+use Rattle.cell_points.specs.Masks.{turned, has_bit, ranks_of}
+use Rattle.cell_points.specs.Places.{place_cmp, cells_at, cells_of_places, rank_of, IsPlace, ArePlaces, firsts_from, place_at, IsPlaceOf, IsLastFrom, holds_at}
+use Rattle.cell_points.specs.declared.place.Place.{Place}
+use Rattle.cell_points.proofs.Ranks.{mask_place}
+use Rattle.cell_points.proofs.Axes.{ranked_rank_of, length-lower}
+use Rattle.cell_points.proofs.Counting.{first_at, length-next, length-place, length-front}
+use Rattle.cell_points.proofs.Views.{At, all_at, view_In, In_view}
+use Rattle.cell_points.proofs.Unions.{place_total}
+use Rattle.cell_points.proofs.Closing.{At-holds}
+
+less_not_equal : Less ≡ Equal → ⊥
+less_not_equal e = true≢false (sym (ap is_eq e))
+
+greater_not_equal : Greater ≡ Equal → ⊥
+greater_not_equal e = true≢false (sym (ap is_eq e))
+
+-- ---- by corner
+
+module _ (ps : List Place) (c : List ℤ) (are : ArePlaces ps) where
+  pub still_below : (m k : ℕ) → m < length ps → corner_cmp (place_at ps m).corner c ≡ Less → k < m + 1 → corner_cmp (place_at ps k).corner c ≡ Less
+  still_below m k l e h = ⊎_elim
+      (λ lt. (lists_total int_cmp_total).trans (place_at ps k).corner (place_at ps m).corner c (Less-from_sorted place_cmp ps k m (record { corner = []; mask = 0 }) are.sorted lt l) e)
+      (λ ge. let s : m ≡ k = omega arith in ap (λ j. corner_cmp (place_at ps j).corner c) (sym s) ∙ e)
+      (cases_lt k m)
+
+  pub still_above : (m k : ℕ) → k < length ps → corner_cmp (place_at ps m).corner c ≡ Greater → m ≤ k → corner_cmp (place_at ps k).corner c ≡ Greater
+  still_above m k l e h = ⊎_elim
+      (λ lt. let t : corner_cmp c (place_at ps k).corner ≡ Less =
+          (lists_total int_cmp_total).trans c (place_at ps m).corner (place_at ps k).corner (above corner_cmp (lists_total int_cmp_total) (place_at ps m).corner c e)
+          (Less-from_sorted place_cmp ps m k (record { corner = []; mask = 0 }) are.sorted lt l) in above' corner_cmp (lists_total int_cmp_total) c (place_at ps k).corner t)
+      (λ ge. let s : m ≡ k = omega arith in ap (λ j. corner_cmp (place_at ps j).corner c) (sym s) ∙ e)
+      (cases_lt m k)
+
+  -- each place is below or above
+  pub nowhere : (n r : ℕ) → ((k : ℕ) → k < n → corner_cmp (place_at ps k).corner c ≡ Less) → ((k : ℕ) → n ≤ k → k < length ps → corner_cmp (place_at ps k).corner c ≡ Greater) → holds_at ps c r ≡ false
+  nowhere n r low high = elim (holds_at ps c r) as (λ b. holds_at ps c r ≡ b → holds_at ps c r ≡ false) [
+    true ↦ λ h.
+      let w = At-holds ps c r h in
+      let i = from-In ps w.0 w.1 in
+      let e : corner_cmp (place_at ps i.0).corner c ≡ Equal =
+        ap (λ (p : Place). corner_cmp p.corner c) (get_or_default ps i.0 (record { corner = []; mask = 0 }) w.0 i.1 ∙ i.2) ∙ ap (λ d. corner_cmp d c) w.2 ∙ tied_itself (lists_total int_cmp_total) c in
+      absurd (⊎_elim (λ lt. let z = low i.0 lt in less_not_equal (sym z ∙ e)) (λ ge. let z = high i.0 ge i.1 in greater_not_equal (sym z ∙ e)) (cases_lt i.0 n))
+    | false ↦ λ h. h
+  ] refl
+
+  -- a place with the corner is the only one
+  pub only : (i r : ℕ) → IsPlaceOf ps c i → At ps c r → has_bit (place_at ps i).mask r ≡ true
+  only i r h w =
+      let j = from-In ps w.0 w.1 in
+      let same : place_at ps j.0 ≡ w.0 = get_or_default ps j.0 (record { corner = []; mask = 0 }) w.0 j.1 ∙ j.2 in
+      let eq : corner_cmp (place_at ps i).corner (place_at ps j.0).corner ≡ Equal =
+      ap (λ d. corner_cmp d (place_at ps j.0).corner) h.corner ∙ ap (λ (p : Place). corner_cmp c p.corner) same ∙ ap (corner_cmp c) w.2 ∙ tied_itself (lists_total int_cmp_total) c in
+      ⊎_elim
+      (λ lt. absurd (less_not_equal (sym (Less-from_sorted place_cmp ps i j.0 (record { corner = []; mask = 0 }) are.sorted lt j.1) ∙ eq)))
+      (λ ge. ⊎_elim
+      (λ lt. absurd (less_not_equal (sym (Less-from_sorted place_cmp ps j.0 i (record { corner = []; mask = 0 }) are.sorted lt h.within)
+      ∙ ap (λ d. corner_cmp (place_at ps j.0).corner d) h.corner ∙ ap (λ (p : Place). corner_cmp p.corner c) same ∙ ap (λ d. corner_cmp d c) w.2 ∙ tied_itself (lists_total int_cmp_total) c)))
+      (λ le. let s : i ≡ j.0 = omega arith in ap (λ k. has_bit (place_at ps k).mask r) s ∙ ap (λ (p : Place). has_bit p.mask r) same ∙ w.3)
+      (cases_lt j.0 i))
+      (cases_lt i j.0)
+
+-- ---- the cells of a place by their numbers
+
+rank_behind : (m r : ℕ) → m < 2 ^ 16 → r < 16 → has_bit m r ≡ true → count_ones (m % 2 ^ r) < length (ranks_of m)
+rank_behind m r s l h = ⊎_elim (λ lt. lt)
+    (λ ge. absurd (let p = get_or_past (ranks_of m) (count_ones (m % 2 ^ r)) (suc r) ge in let q = mask_place m r (suc r) l h in omega arith))
+    (cases_lt (count_ones (m % 2 ^ r)) (length (ranks_of m)))
+
+at_In : {X : Type 0} (xs : List X) (i : ℕ) (d : X) → i < length xs → In xs (get_or xs i d)
+at_In [] i d l = absurd (omega arith)
+at_In (x ∷ xs) zero d l = inl refl
+at_In (x ∷ xs) (suc i) d l = inr (at_In xs i d (omega arith))
+
+within : (ps : List Place) (i j : ℕ) (d : Place) → ArePlaces ps → i < length ps → j < length (cells_at (get_or ps i d)) → get_or (firsts_from 0 ps) i 0 ≡ length (cells_of_places (take i ps))
+    → get_or (firsts_from 0 ps) i 0 + j < length (cells_of_places ps)
+within ps i j d are l b first =
+    let p = get_or ps i d in
+    let n = length-next ps i d are.each l in
+    let c = length-place p (all_at IsPlace ps p are.each (at_In ps i d l)) in
+    let f = length-front ps (suc i) in
+    omega arith
+
+-- the cell of a rank of a place stands so far behind the first one of the place
+pub numbered : (ps : List Place) (i r : ℕ) → ArePlaces ps → i < length ps → r < 16 → has_bit (place_at ps i).mask r ≡ true
+    → (get_or (firsts_from 0 ps) i 0 + count_ones ((place_at ps i).mask % 2 ^ r) < length (cells_of_places ps))
+    × (cell_at (cells_of_places ps) (get_or (firsts_from 0 ps) i 0 + count_ones ((place_at ps i).mask % 2 ^ r)) ≡ cell_of (place_at ps i).corner (turned r))
+numbered ps i r are l k h =
+    let p = place_at ps i in
+    let is : IsPlace p = all_at IsPlace ps p are.each (at_In ps i (record { corner = []; mask = 0 }) l) in
+    let j = count_ones (p.mask % 2 ^ r) in
+    let f : ℕ → List Factor = λ r. cell_of p.corner (turned r) in
+    let b : j < length (ranks_of p.mask) = rank_behind p.mask r is.small k h in
+    let b' : j < length (cells_at p) = (let e = length-map (ranks_of p.mask) f in omega arith) in
+    let first : get_or (firsts_from 0 ps) i 0 ≡ length (cells_of_places (take i ps)) = first_at ps i 0 are.each l in
+    let at : get_or (cells_of_places ps) (length (cells_of_places (take i ps)) + j) [] ≡ get_or (cells_at p) j [] = get_or-flat_map cells_at ps i j (record { corner = []; mask = 0 }) [] l b' in
+    let in_place : get_or (cells_at p) j [] ≡ f (get_or (ranks_of p.mask) j 0) = get_or-map f (ranks_of p.mask) j 0 [] b in
+    (within ps i j (record { corner = []; mask = 0 }) are l b' first,
+    ap (λ n. get_or (cells_of_places ps) (n + j) []) first ∙ at ∙ in_place ∙ ap f (mask_place p.mask r 0 k h))
