@@ -11,7 +11,7 @@ pub made_some : {A : Type 0} (o : Option A) (x : A) → o ≡ Some x → IsSome 
 made_some None x e = cc
 made_some (Some y) x e = search rules
 
-axis_below : (a n : ℕ) → a < 2 ^ n → nat_lt a (2 ^ n) ≡ true
+pub axis_below : (a n : ℕ) → a < 2 ^ n → nat_lt a (2 ^ n) ≡ true
 axis_below a n h = grind (arith, nat_tests)
 
 pub edge_made : (c : List ℤ) (axis : ℕ) → axis < length c → length c ≤ 4 → IsTrue (is_cell (cell_of c (2 ^ axis))) → checked_of c (1 * 2 ^ axis % 2 ^ 8) ≡ Some (cell_of c (2 ^ axis))

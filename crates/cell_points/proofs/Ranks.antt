@@ -206,3 +206,11 @@ ones_next m (suc r) =
     let d = bit_at-suc m r in
     let s : suc r + 1 ≡ suc (r + 1) = omega arith in
     ap (λ k. count_ones (m % 2 ^ k)) s ∙ (omega arith)
+
+pub next_with : (m r : ℕ) → has_bit m r ≡ true → count_ones (m % 2 ^ (r + 1)) ≡ count_ones (m % 2 ^ r) + 1
+next_with m r h = let n = ones_next m r in let b = eqb-true (bit_at m r) 1 h in omega arith
+
+pub next_without : (m r : ℕ) → has_bit m r ≡ false → count_ones (m % 2 ^ (r + 1)) ≡ count_ones (m % 2 ^ r)
+next_without m r h =
+    let n = ones_next m r in
+    ⊎_elim (λ z. omega arith) (λ o. absurd (true≢false (sym (eq-eqb (bit_at m r) 1 o) ∙ h))) (bit_cases (bit_at m r) (bit_at-lt m r))

@@ -1,6 +1,6 @@
 -- Searches of places, and the numbers of the cells at a place.
 use Rattle.std.proofs.Common.{◌≡◌, ◌≢◌, ℕ, zero, suc, ◌+◌, ◌-◌, ◌*◌, ◌/◌, ◌%◌, ◌^◌, ◌<◌, ◌≤◌, ◌⊎◌, inl, inr, ⊎_elim, refl, sym, ap, ◌∙◌, subst, arith, List, [], ◌∷◌, ◌++◌, length, take, get_or, map, Bool, true, false, eqb, cond, Some}
-use Rattle.std.specs.Prelude.{ℤ, slice_get}
+use Rattle.std.specs.Prelude.{ℤ, slice_get, IsTrue}
 use Rattle.std.specs.Int.{bit_at}
 use Rattle.std.specs.Int.RustNames.{count_ones}
 use Rattle.std.specs.List.{Contains, flat_map}
@@ -18,19 +18,29 @@ use Rattle.std.proofs.lemmas.List.Concat.{get_or-flat_map}
 use Rattle.std.proofs.lemmas.Map.Keys.{Less-from_sorted}
 use Rattle.std.proofs.lemmas.Option.{slice_get-get_or}
 use Rattle.elem_cubes.specs.Corners.{corner_cmp}
-use Rattle.elem_cubes.specs.Cells.{Factor, lower_of, cell_of}
+use Rattle.elem_cubes.specs.Cells.{Factor, is_cell, is_file_factor, lower_of, axes_of, cell_of, checked_of}
+use Rattle.elem_cubes.specs.Order.{cell_cmp}
+use Rattle.elem_cubes.specs.OrderLemmas.{tied_lists}
+use Rattle.std.specs.List.{list_all}
+use Rattle.std.proofs.lemmas.List.{take_all}
+use Rattle.cube_sets.specs.Sets.{Members, IsCubeSet, is_member}
+use Rattle.cube_sets.specs.Closures.{cells_of}
+use Rattle.cube_sets.proofs.Covering.{cells_are_faces, member_parts, in_range}
+use Rattle.cube_sets.proofs.Spreads.{In_passes}
+use Rattle.cell_points.specs.Sorted.{IsSortedCells}
+use Rattle.cell_points.proofs.Edges.{axis_below}
 use Rattle.elem_cubes.specs.Laws.{cell_at}
 use Rattle.elem_cubes.proofs.Members.{In, In-from, from-In}
 use Rattle.cube_sets.proofs.Merging.{above, above'}
 use Rattle.cell_points.specs.Masks.{turned, has_bit, ranks_of}
 use Rattle.cell_points.specs.Places.{place_cmp, cells_at, cells_of_places, rank_of, IsPlace, ArePlaces, firsts_from, place_at, IsPlaceOf, IsLastFrom, holds_at}
 use Rattle.cell_points.specs.declared.place.Place.{Place}
-use Rattle.cell_points.proofs.Ranks.{mask_place}
+use Rattle.cell_points.proofs.Ranks.{mask_place, turned_few}
 use Rattle.cell_points.proofs.Axes.{ranked_rank_of, length-lower}
-use Rattle.cell_points.proofs.Counting.{first_at, length-next, length-place, length-front}
+use Rattle.cell_points.proofs.Counting.{length-firsts, first_at, length-next, length-place, length-front}
 use Rattle.cell_points.proofs.Views.{At, all_at, view_In, In_view}
 use Rattle.cell_points.proofs.Unions.{place_total}
-use Rattle.cell_points.proofs.Closing.{At-holds}
+use Rattle.cell_points.proofs.Closing.{At-holds, cell_in_range, file_factors}
 
 less_not_equal : Less ≡ Equal → ⊥
 less_not_equal e = true≢false (sym (ap is_eq e))
@@ -115,8 +125,88 @@ numbered ps i r are l k h =
     let f : ℕ → List Factor = λ r. cell_of p.corner (turned r) in
     let b : j < length (ranks_of p.mask) = rank_behind p.mask r is.small k h in
     let b' : j < length (cells_at p) = (let e = length-map (ranks_of p.mask) f in omega arith) in
-    let first : get_or (firsts_from 0 ps) i 0 ≡ length (cells_of_places (take i ps)) = first_at ps i 0 are.each l in
+    let first : get_or (firsts_from 0 ps) i 0 ≡ length (cells_of_places (take i ps)) = first_at ps i 0 are.each l ∙ (let z : 0 + length (cells_of_places (take i ps)) ≡ length (cells_of_places (take i ps)) = omega arith in z) in
     let at : get_or (cells_of_places ps) (length (cells_of_places (take i ps)) + j) [] ≡ get_or (cells_at p) j [] = get_or-flat_map cells_at ps i j (record { corner = []; mask = 0 }) [] l b' in
     let in_place : get_or (cells_at p) j [] ≡ f (get_or (ranks_of p.mask) j 0) = get_or-map f (ranks_of p.mask) j 0 [] b in
     (within ps i j (record { corner = []; mask = 0 }) are l b' first,
     ap (λ n. get_or (cells_of_places ps) (n + j) []) first ∙ at ∙ in_place ∙ ap f (mask_place p.mask r 0 k h))
+
+-- a place that is found
+pub found_place : (ps : List Place) (c : List ℤ) (i : ℕ) (p : Place) → i < length ps → p ≡ get_or ps i p → corner_cmp p.corner c ≡ Equal → IsPlaceOf ps c i
+found_place ps c i p l e h = record {
+  within = l;
+  corner = ap (λ (q : Place). q.corner) (sym (e ∙ get_or_default ps i p (record { corner = []; mask = 0 }) l)) ∙ tied_lists p.corner c h;
+}
+
+pub at_place : (ps : List Place) (i : ℕ) (p : Place) → i < length ps → p ≡ get_or ps i p → p ≡ place_at ps i
+at_place ps i p l e = e ∙ get_or_default ps i p (record { corner = []; mask = 0 }) l
+
+-- ---- the number of a cell at its place
+
+module _ (ps : List Place) (q : List Factor) (i : ℕ) (are : ArePlaces ps) (h : IsPlaceOf ps (lower_of q) i) (few : length q ≤ 4) where
+  -- where its rank is not there, the cell is not
+  pub not_there : has_bit (place_at ps i).mask (rank_of q) ≡ false → Contains (cells_of_places ps) q → ⊥
+  not_there b w = true≢false (sym (only ps (lower_of q) are i (rank_of q) h (view_In ps q are (In-from (cells_of_places ps) q w))) ∙ b)
+
+  module _ (b : has_bit (place_at ps i).mask (rank_of q) ≡ true) where
+    number_of : ℕ
+    number_of = get_or (firsts_from 0 ps) i 0 + count_ones ((place_at ps i).mask % 2 ^ rank_of q)
+
+    pub number_few : get_or (firsts_from 0 ps) i 0 + count_ones ((place_at ps i).mask % 2 ^ rank_of q) < length (cells_of_places ps)
+    number_few = (numbered ps i (rank_of q) are h.within (turned_few (axes_of q)) b).0
+
+    pub number_cell : cell_at (cells_of_places ps) (get_or (firsts_from 0 ps) i 0 + count_ones ((place_at ps i).mask % 2 ^ rank_of q)) ≡ q
+    number_cell = (numbered ps i (rank_of q) are h.within (turned_few (axes_of q)) b).1 ∙ ap (λ c. cell_of c (turned (rank_of q))) h.corner ∙ ranked_rank_of q few
+
+-- ---- the place of a number
+
+pub number_inside : (ps : List Place) (number i : ℕ) → ArePlaces ps → number < length (cells_of_places ps) → IsLastFrom (firsts_from 0 ps) number i
+    → (i < length ps) × (number < get_or (firsts_from 0 ps) i 0 + count_ones (place_at ps i).mask)
+number_inside ps number i are l h =
+    let w : i < length ps = (let a = h.within in let b = length-firsts ps 0 in omega arith) in
+    let n = length-next ps i (record { corner = []; mask = 0 }) are.each w in
+    let f = first_at ps i 0 are.each w in
+    (w, ⊎_elim
+    (λ lt. let g = first_at ps (suc i) 0 are.each lt in let a = h.above (omega (arith, length-firsts ps 0)) in let s : i + 1 ≡ suc i = omega arith in let t = ap (λ k. get_or (firsts_from 0 ps) k 0) s in omega arith)
+    (λ ge. let e = ap (λ qs. length (cells_of_places qs)) (take_all (suc i) ps (omega arith)) in omega arith)
+    (cases_lt (suc i) (length ps)))
+
+pub some_firsts : (ps : List Place) (number : ℕ) → number < length (cells_of_places ps) → (0 < length (firsts_from 0 ps)) × (get_or (firsts_from 0 ps) 0 0 ≤ number)
+some_firsts [] number l = absurd (omega arith)
+some_firsts (p ∷ ps) number l = (omega arith, omega arith)
+
+-- the cell of a number, by its place and its rank there
+module _ (ps : List Place) (number i r : ℕ) (are : ArePlaces ps) (l : i < length ps) (k : r < 16) (b : has_bit (place_at ps i).mask r ≡ true)
+    (n : get_or (firsts_from 0 ps) i 0 + count_ones ((place_at ps i).mask % 2 ^ r) ≡ number) where
+  pub cell_there : cell_of (place_at ps i).corner (turned r) ≡ cell_at (cells_of_places ps) number
+  cell_there = sym (numbered ps i r are l k b).1 ∙ ap (cell_at (cells_of_places ps)) n
+
+  pub cell_made : number < length (cells_of_places ps) → 1 ≤ length (place_at ps i).corner → IsSortedCells (cells_of_places ps)
+      → checked_of (place_at ps i).corner (turned r) ≡ Some (cell_of (place_at ps i).corner (turned r))
+  cell_made few some s =
+      let p = place_at ps i in
+      let is : IsPlace p = all_at IsPlace ps p are.each (at_In ps i (record { corner = []; mask = 0 }) l) in
+      let q = cell_of p.corner (turned r) in
+      let m : In (cells_of_places ps) q = subst (λ (t : List Factor). In (cells_of_places ps) t) (sym cell_there) (at_In (cells_of_places ps) number [] few) in
+      let range : list_all is_file_factor q ≡ true = In_passes (list_all is_file_factor) (cells_of_places ps) q s.in_range m in
+      let c : IsTrue (is_cell q) = cell_in_range p.corner (turned r) some is.short (file_factors q range) in
+      rw (axis_below (turned r) (length p.corner) (is.fits r b), c) refl
+
+-- ---- sorted cells of sets
+
+long : (n : ℕ) (xs : List (List Factor)) (i : ℕ) → list_all (is_member n) xs ≡ true → i < length xs → length (cell_at xs i) ≡ n
+long n xs i h l = (member_parts n (cell_at xs i) (In_passes (is_member n) xs (cell_at xs i) h (at_In xs i [] l))).0
+
+pub sorted_members : (n : ℕ) (xs : List (List Factor)) → IsStrictlySortedBy cell_cmp xs → list_all (is_member n) xs ≡ true → length xs < 2 ^ 32 → IsSortedCells xs
+sorted_members n xs s h few = record {
+  sorted = s;
+  alike = λ i j li lj. long n xs i h li ∙ sym (long n xs j h lj);
+  in_range = in_range n xs h;
+  few = few;
+}
+
+pub sorted_of_set : (set : Members) → IsCubeSet set → IsSortedCells set.cells
+sorted_of_set set is = sorted_members set.dimension set.cells is.sorted is.alike is.few
+
+pub sorted_faces : (set : Members) → IsCubeSet set → length (cells_of set.cells) < 2 ^ 32 → IsSortedCells (cells_of set.cells)
+sorted_faces set is few = sorted_members set.dimension (cells_of set.cells) (cells_are_faces.sorted set.cells) (cells_are_faces.alike set.dimension set.cells is.alike) few

@@ -84,6 +84,13 @@ impl Points {
         })
     }
 
+    /// The cells that are not among the others.
+    pub fn without(self, alloc: Global, others: &Points) -> Result<Points, AllocError>
+        ensures { IfOk result (λ points. points ≡ without self others.now) }
+    {
+        Err(AllocError)
+    }
+
     /// How many cells there are.
     pub fn len(&self) -> u32
         ensures count { result ≡ length self.now }
@@ -119,6 +126,8 @@ impl Points {
             *near = place;
         }
         let here = self.places[place];
+        // Read here so that the corner is known to have coordinates.
+        let _ = here.corner.len();
         let rank = rank_at(here.mask, number - self.firsts[place]);
         Cell::new(here.corner, turned(rank)).unwrap()
     }
