@@ -210,3 +210,25 @@ sorted_of_set set is = sorted_members set.dimension set.cells is.sorted is.alike
 
 pub sorted_faces : (set : Members) → IsCubeSet set → length (cells_of set.cells) < 2 ^ 32 → IsSortedCells (cells_of set.cells)
 sorted_faces set is few = sorted_members set.dimension (cells_of set.cells) (cells_are_faces.sorted set.cells) (cells_are_faces.alike set.dimension set.cells is.alike) few
+
+-- ---- the same in the words of the code
+
+pub at_cmp : (ps : List Place) (c : List ℤ) (m : ℕ) (p : Place) (r o : Ordering) → m < length ps → r ≡ corner_cmp (get_or ps m p).corner c → r ≡ o → corner_cmp (place_at ps m).corner c ≡ o
+at_cmp ps c m p r o l e h = ap (λ (q : Place). corner_cmp q.corner c) (get_or_default ps m (record { corner = []; mask = 0 }) p l) ∙ sym e ∙ h
+
+pub found_at : (ps : List Place) (c : List ℤ) (m : ℕ) (p : Place) (r : Ordering) → m < length ps → r ≡ corner_cmp (get_or ps m p).corner c → r ≡ Equal → IsPlaceOf ps c m
+found_at ps c m p r l e h = record { within = l; corner = tied_lists (place_at ps m).corner c (at_cmp ps c m p r Equal l e h) }
+
+module _ (ps : List Place) (i : ℕ) (p : Place) (rank : ℕ) (q : List Factor) (l : i < length ps) (e : rank ≡ rank_of q) where
+  same_place : place_at ps i ≡ get_or ps i p
+  same_place = get_or_default ps i (record { corner = []; mask = 0 }) p l
+
+  pub bit_there : (v b : Bool) → v ≡ has_bit (get_or ps i p).mask rank → v ≡ b → has_bit (place_at ps i).mask (rank_of q) ≡ b
+  bit_there v b h k = ap (λ (z : Place). has_bit z.mask (rank_of q)) same_place ∙ ap (has_bit (get_or ps i p).mask) (sym e) ∙ sym h ∙ k
+
+  pub count_there : (k : ℕ) (firsts : List ℕ) → k ≡ count_ones ((get_or ps i p).mask % 2 ^ rank) → firsts ≡ firsts_from 0 ps
+      → get_or firsts i 0 + k ≡ get_or (firsts_from 0 ps) i 0 + count_ones ((place_at ps i).mask % 2 ^ rank_of q)
+  count_there k firsts h f =
+      let a : get_or firsts i 0 ≡ get_or (firsts_from 0 ps) i 0 = ap (λ ns. get_or ns i 0) f in
+      let b : k ≡ count_ones ((place_at ps i).mask % 2 ^ rank_of q) = h ∙ ap (λ r. count_ones ((get_or ps i p).mask % 2 ^ r)) e ∙ ap (λ (z : Place). count_ones (z.mask % 2 ^ rank_of q)) (sym same_place) in
+      omega arith
