@@ -40,7 +40,7 @@ use Rattle.cell_points.proofs.Axes.{ranked_rank_of, length-lower}
 use Rattle.cell_points.proofs.Counting.{length-firsts, first_at, length-next, length-place, length-front}
 use Rattle.cell_points.proofs.Views.{At, all_at, view_In, In_view}
 use Rattle.cell_points.proofs.Unions.{place_total}
-use Rattle.cell_points.proofs.Closing.{At-holds, cell_in_range, file_factors}
+use Rattle.cell_points.proofs.Closing.{At-holds, holds-At, cell_in_range, file_factors}
 
 less_not_equal : Less ≡ Equal → ⊥
 less_not_equal e = true≢false (sym (ap is_eq e))
@@ -232,3 +232,40 @@ module _ (ps : List Place) (i : ℕ) (p : Place) (rank : ℕ) (q : List Factor) 
       let a : get_or firsts i 0 ≡ get_or (firsts_from 0 ps) i 0 = ap (λ ns. get_or ns i 0) f in
       let b : k ≡ count_ones ((place_at ps i).mask % 2 ^ rank_of q) = h ∙ ap (λ r. count_ones ((get_or ps i p).mask % 2 ^ r)) e ∙ ap (λ (z : Place). count_ones (z.mask % 2 ^ rank_of q)) (sym same_place) in
       omega arith
+
+-- the place of a number, in the words of the code
+pub record IsFound (ps : List Place) (number i : ℕ) (here : Place) (first : ℕ) : Type 0 where
+  pub within : i < length ps
+  pub is : here ≡ place_at ps i
+  pub begins : first ≡ get_or (firsts_from 0 ps) i 0
+  pub low : first ≤ number
+  pub high : number < first + count_ones here.mask
+
+pub found_number : (ps : List Place) (firsts : List ℕ) (number i : ℕ) (here : Place) (first : ℕ) → ArePlaces ps → number < length (cells_of_places ps) → firsts ≡ firsts_from 0 ps → IsLastFrom firsts number i
+    → here ≡ get_or ps i here → first ≡ get_or firsts i first → IsFound ps number i here first
+found_number ps firsts number i here first are l f h e g =
+    let k : IsLastFrom (firsts_from 0 ps) number i = subst (λ (ns : List ℕ). IsLastFrom ns number i) f h in
+    let w = number_inside ps number i are l k in
+    let is : here ≡ place_at ps i = at_place ps i here w.0 e in
+    let begins : first ≡ get_or (firsts_from 0 ps) i 0 = g ∙ get_or_default firsts i first 0 h.within ∙ ap (λ ns. get_or ns i 0) f in
+    record {
+      within = w.0;
+      is = is;
+      begins = begins;
+      low = omega (arith, k.below, begins);
+      high = let m = ap (λ (p : Place). count_ones p.mask) is in omega (arith, w.1, begins);
+    }
+
+pub found_is : (ps : List Place) (number i : ℕ) (here : Place) (first r : ℕ) → ArePlaces ps → IsSortedCells (cells_of_places ps) → number < length (cells_of_places ps) → IsFound ps number i here first
+    → r < 16 → has_bit here.mask r ≡ true → count_ones (here.mask % 2 ^ r) ≡ number - first → 1 ≤ length here.corner
+    → (checked_of here.corner (turned r) ≡ Some (cell_at (cells_of_places ps) number))
+found_is ps number i here first r are s l f k b n some =
+    let b' : has_bit (place_at ps i).mask r ≡ true = ap (λ (p : Place). has_bit p.mask r) (sym f.is) ∙ b in
+    let m = ap (λ (p : Place). count_ones (p.mask % 2 ^ r)) f.is in
+    let n' : get_or (firsts_from 0 ps) i 0 + count_ones ((place_at ps i).mask % 2 ^ r) ≡ number = omega (arith, m, n, f.begins, f.low) in
+    let some' : 1 ≤ length (place_at ps i).corner = omega (arith, some, ap (λ (p : Place). length p.corner) f.is) in
+    ap (λ (p : Place). checked_of p.corner (turned r)) f.is ∙ cell_made ps number i r are f.within k b' n' l some' s ∙ ap Some (cell_there ps number i r are f.within k b' n')
+
+-- where no place has the corner, the cell is not there
+pub absent_cell : (ps : List Place) (q : List Factor) → ArePlaces ps → ((r : ℕ) → holds_at ps (lower_of q) r ≡ false) → Contains (cells_of_places ps) q → ⊥
+absent_cell ps q are h w = true≢false (sym (holds-At ps (lower_of q) (rank_of q) (view_In ps q are (In-from (cells_of_places ps) q w))) ∙ h (rank_of q))
