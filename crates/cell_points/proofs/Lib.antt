@@ -11,3 +11,4 @@ mod Edges
 mod Closed
 mod Grouping
 mod Searching
+mod Without

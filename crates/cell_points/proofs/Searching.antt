@@ -100,7 +100,7 @@ rank_behind m r s l h = ⊎_elim (λ lt. lt)
     (λ ge. absurd (let p = get_or_past (ranks_of m) (count_ones (m % 2 ^ r)) (suc r) ge in let q = mask_place m r (suc r) l h in omega arith))
     (cases_lt (count_ones (m % 2 ^ r)) (length (ranks_of m)))
 
-at_In : {X : Type 0} (xs : List X) (i : ℕ) (d : X) → i < length xs → In xs (get_or xs i d)
+pub at_In : {X : Type 0} (xs : List X) (i : ℕ) (d : X) → i < length xs → In xs (get_or xs i d)
 at_In [] i d l = absurd (omega arith)
 at_In (x ∷ xs) zero d l = inl refl
 at_In (x ∷ xs) (suc i) d l = inr (at_In xs i d (omega arith))

@@ -1,5 +1,6 @@
 -- Places: corners in order, each with the mask of the cells at it.
-use Rattle.std.specs.Prelude.{◌≡◌, ◌≢◌, ◌&&◌, IsTrue, ℕ, ◌+◌, ◌<◌, ◌≤◌, ◌^◌, ℤ, pos, ◌+ℤ◌, List, [], ◌∷◌, length, map, Bool, true, ◌==◌, if◌then◌else◌, bit_or, slice_index_or, slice_set}
+use Rattle.std.specs.Prelude.{◌≡◌, ◌≢◌, ◌&&◌, IsTrue, ℕ, ◌+◌, ◌<◌, ◌≤◌, ◌^◌, ℤ, pos, ◌+ℤ◌, List, [], ◌∷◌, length, map, Bool, true, ◌==◌, if◌then◌else◌, bit_and, bit_or, slice_index_or, slice_set}
+use Rattle.std.specs.Int.{bit_not, w16}
 use Rattle.std.specs.Int.RustNames.{count_ones}
 use Rattle.std.specs.List.{flat_map, list_any, AllByRecursion}
 use Rattle.std.specs.List.Sorted.{IsStrictlySortedBy}
@@ -92,3 +93,12 @@ pub record IsLastFrom (firsts : List ℕ) (number place : ℕ) : Type 0 where
   pub within : place < length firsts
   pub below : slice_index_or firsts place 0 ≤ number
   pub above : place + 1 < length firsts → number < slice_index_or firsts (place + 1) 0
+
+-- the mask of all cells at a corner
+abbrev pub mask_of : List Place → List ℤ → ℕ
+mask_of [] c = 0
+mask_of (p ∷ ps) c = bit_or (if is_eq (corner_cmp p.corner c) then p.mask else 0) (mask_of ps c)
+
+-- the place without the cells that are at other places
+abbrev pub cut : List Place → Place → Place
+cut others p = record { corner = p.corner; mask = bit_and p.mask (bit_not w16 (mask_of others p.corner)) }

@@ -1,6 +1,7 @@
 //! Distinct cells in their order, kept by their lower corners.
 #![tactic(auto)]
 
+mod cutting;
 mod fault;
 mod mask;
 mod place;

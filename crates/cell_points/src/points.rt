@@ -6,11 +6,12 @@ ghost use Rattle.cube_sets.specs.Closures.{cells_of};
 ghost use Rattle.cell_points.specs.Sorted.{IsSortedCells, without};
 ghost use Rattle.cell_points.specs.Places.{ArePlaces, cells_of_places};
 
+use crate::cutting::cut_all;
 use crate::fault::PointsFault;
 use crate::mask::{rank_at, turned};
 use crate::place::Place;
 use crate::places::{closed, count_within, firsts_of, places_of};
-use crate::search::{number_at, place_near, place_of_corner, place_of_number};
+use crate::search::{number_at, place_from, place_of_corner, place_of_number};
 use cube_sets::CubeSet;
 use elem_cubes::Cell;
 use std::alloc::{AllocError, Global};
@@ -88,7 +89,9 @@ impl Points {
     pub fn without(self, alloc: Global, others: &Points) -> Result<Points, AllocError>
         ensures { IfOk result (λ points. points ≡ without self others.now) }
     {
-        Err(AllocError)
+        let places = cut_all(alloc, &self.places, &others.places)?;
+        let count = count_within(&places, self.count).unwrap();
+        Points::of_places(alloc, places, count)
     }
 
     /// How many cells there are.
@@ -137,7 +140,9 @@ impl Points {
         ensures found { IsSome result ↔ Contains self.now cell.now }
         ensures place { IfSome result (λ number. slice_get self.now number ≡ Some cell.now) }
     {
-        let place = place_of_corner(&self.places, &cell.lower())?;
+        let Some(place) = place_of_corner(&self.places, &cell.lower()) else {
+            return None;
+        };
         number_at(&self.places, &self.firsts, cell, place)
     }
 
@@ -147,10 +152,8 @@ impl Points {
         ensures found { IsSome result ↔ Contains self.now cell.now }
         ensures place { IfSome result (λ number. slice_get self.now number ≡ Some cell.now) }
     {
-        let corner = cell.lower();
-        let place = match place_near(&self.places, &corner, *near as usize) {
-            Some(place) => place,
-            None => place_of_corner(&self.places, &corner)?,
+        let Some(place) = place_from(&self.places, &cell.lower(), *near as usize) else {
+            return None;
         };
         if let Ok(place) = u32::try_from(place) {
             *near = place;

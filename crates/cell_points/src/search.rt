@@ -12,8 +12,8 @@ use std::cmp::Ordering;
 // How many places are looked at one by one before a search of all.
 const FEW: usize = 16;
 
-/// The place with this corner, where it is one of the few from a place on.
-pub(crate) fn place_near(places: &[Place], corner: &Corner, near: usize) -> Option<usize>
+// The place with this corner, where it is one of the few from a place on.
+fn place_near(places: &[Place], corner: &Corner, near: usize) -> Option<usize>
     ensures { IfSome result (IsPlaceOf places.now corner.now) }
 {
     let end = near.saturating_add(FEW).min(places.len());
@@ -44,6 +44,18 @@ pub(crate) fn place_of_corner(places: &[Place], corner: &Corner) -> Option<usize
         }
     }
     None
+}
+
+/// The same, found sooner where it is one of the few from a place on.
+pub(crate) fn place_from(places: &[Place], corner: &Corner, near: usize) -> Option<usize>
+    requires { ArePlaces places.now }
+    ensures some { IfSome result (IsPlaceOf places.now corner.now) }
+    ensures none { IfNone result ((r : ℕ) → holds_at places.now corner.now r ≡ false) }
+{
+    match place_near(places, corner, near) {
+        Some(place) => Some(place),
+        None => place_of_corner(places, corner),
+    }
 }
 
 // Whether the number is between that of the place and that of the next.

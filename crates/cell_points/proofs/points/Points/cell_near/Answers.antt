@@ -2,9 +2,9 @@ use Rattle.std.proofs.Common.{◌≡◌, ◌<◌, ◌+◌, ◌-◌, ◌≤◌, �
 use Rattle.std.specs.Prelude.{ℕ}
 use Rattle.elem_cubes.specs.Cells.{checked_of}
 use Rattle.elem_cubes.specs.Laws.{cell_at}
-use Rattle.cell_points.specs.Places.{cells_of_places}
+use Rattle.cell_points.specs.Places.{IsLastFrom, cells_of_places}
 use Rattle.cell_points.proofs.Edges.{made_some, same_some}
-use Rattle.cell_points.proofs.Searching.{some_firsts, found_number, found_is}
+use Rattle.cell_points.proofs.Searching.{some_firsts, number_inside, found_number, found_is}
 use Rattle.cell_points.proofs.points.Points.cell_near.Goals as goal
 
 pub place_of_number-place-requires-clause-some : goal.place_of_number-place-requires-clause-some
@@ -18,7 +18,10 @@ place_of_number-place-requires-clause-first c =
     omega (arith, ap (λ ns. get_or ns 0 0) (c.deref.ensures.value ∙ c.self.invariant.numbered), f.1)
 
 pub index-requires : goal.index-requires
-index-requires c = ?
+index-requires c =
+    let h = subst (λ (f : List ℕ). IsLastFrom f c.args.number c.place_of_number-place.result) (c.deref.ensures.value ∙ c.self.invariant.numbered) c.place_of_number-place.ensures in
+    let f = number_inside c.self.inside.places.items c.args.number c.place_of_number-place.result c.self.invariant.are (omega (arith, c.requires, ap length c.self.view_is)) h in
+    omega (arith, f.0, c.self.inside.places.ok)
 
 pub rank_at-rank-requires : goal.rank_at-rank-requires
 rank_at-rank-requires c =
