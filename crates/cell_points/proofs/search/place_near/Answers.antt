@@ -1,4 +1,4 @@
-use Rattle.std.proofs.Common.{◌<◌, ◌≤◌, length, arith}
+use Rattle.std.proofs.Common.{arith}
 use Rattle.cell_points.proofs.Searching.{found_at}
 use Rattle.cell_points.proofs.search.place_near.Goals as goal
 
