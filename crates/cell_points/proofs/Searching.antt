@@ -267,3 +267,12 @@ found_is ps number i here first r are s l f k b n some =
 -- where no place has the corner, the cell is not there
 pub absent_cell : (ps : List Place) (q : List Factor) → ArePlaces ps → ((r : ℕ) → holds_at ps (lower_of q) r ≡ false) → Contains (cells_of_places ps) q → ⊥
 absent_cell ps q are h w = true≢false (sym (holds-At ps (lower_of q) (rank_of q) (view_In ps q are (In-from (cells_of_places ps) q w))) ∙ h (rank_of q))
+
+-- a corner between two places is at none
+pub between : (ps : List Place) (c : List ℤ) (k : ℕ) (p : Place) (r : Ordering) → ArePlaces ps → k < length ps → 1 ≤ k → corner_cmp (place_at ps (k - 1)).corner c ≡ Less
+    → r ≡ corner_cmp (get_or ps k p).corner c → r ≡ Greater → (n : ℕ) → holds_at ps c n ≡ false
+between ps c k p r are l some low e h n =
+    let high = at_cmp ps c k p r Greater l e h in
+    nowhere ps c are k n
+    (λ j s. still_below ps c are (k - 1) j (omega arith) low (omega arith))
+    (λ j s t. still_above ps c are k j t high s)
