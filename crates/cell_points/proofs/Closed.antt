@@ -10,7 +10,11 @@ use Rattle.elem_cubes.specs.Order.{cell_cmp}
 use Rattle.elem_cubes.proofs.FaceLemmas.{face-Decides}
 use Rattle.elem_cubes.proofs.Members.{In}
 use Rattle.elem_cubes.proofs.Ranges.{faces_stay_in_range}
-use Rattle.cube_sets.specs.Sorted.{has}
+use Rattle.std.specs.List.Sorted.{IsStrictlySortedBy}
+use Rattle.elem_cubes.specs.OrderLemmas.{cell_cmp_total}
+use Rattle.cube_sets.specs.Sorted.{has, union_of}
+use Rattle.cube_sets.proofs.Merging.{has-union, sorted-union}
+use Rattle.cube_sets.proofs.Steps.{length-union}
 use Rattle.cube_sets.specs.Sets.{is_member}
 use Rattle.cube_sets.specs.Closures.{is_cell_of, cells_of}
 use Rattle.cube_sets.proofs.Covering.{cells_are_faces, member_parts}
@@ -34,6 +38,19 @@ closed_begins start are = record {
   from = λ q m. (q, m, refl);
   to = λ s q m e. subst (λ (u : List Factor). In (cells_of_places start) u) e m;
 }
+
+absorbed : (a b : Bool) → (b ≡ true → a ≡ true) → (a || b) ≡ a
+absorbed true b h = refl
+absorbed false true h = sym (h refl)
+absorbed false false h = refl
+
+-- a sorted list with no other cells than a second one is no longer
+fewer_cells : (xs ys : List (List Factor)) → IsStrictlySortedBy cell_cmp xs → IsStrictlySortedBy cell_cmp ys → ((q : List Factor) → has cell_cmp xs q ≡ true → has cell_cmp ys q ≡ true) → length xs ≤ length ys
+fewer_cells xs ys s t h =
+    let e : union_of cell_cmp ys xs ≡ ys = same_sets (union_of cell_cmp ys xs) ys (sorted-union cell_cmp cell_cmp_total ys xs s) t
+    (λ q. has-union cell_cmp cell_cmp_total ys xs q ∙ absorbed (has cell_cmp ys q) (has cell_cmp xs q) (h q)) in
+    let l = length-union cell_cmp ys xs in
+    omega (arith, ap length e)
 
 module _ (axes : ℕ) (start : List Place) (few : axes ≤ 4) (alike : list_all (is_member axes) (cells_of_places start) ≡ true) where
   range : (n : ℕ) (places : List Place) → IsClosedTo n start places → (q : List Factor) → In (cells_of_places places) q → list_all is_file_factor q ≡ true
@@ -87,3 +104,8 @@ module _ (axes : ℕ) (start : List Place) (few : axes ≤ 4) (alike : list_all 
       let l : length w.0 ≡ axes = (member_parts axes w.0 (In_passes (is_member axes) (cells_of_places start) w.0 alike w.1)).0 in
       In_has (cells_of_places places) q (h.to w.0 q w.1 (face_spread axes w.0 q (omega arith) w.2)))
       ∙ sym (cells_are_faces.faces (cells_of_places start) q))
+
+  -- before the last axis there are no more cells than faces
+  pub closed_fewer : (n : ℕ) (places : List Place) → IsClosedTo n start places → length (cells_of_places places) ≤ length (cells_of (cells_of_places start))
+  closed_fewer n places h = fewer_cells (cells_of_places places) (cells_of (cells_of_places start)) (sorted_cells places h.are) (cells_are_faces.sorted (cells_of_places start))
+      (λ q t. let w = h.from q (has_In (cells_of_places places) q t) in cells_are_faces.faces (cells_of_places start) q ∙ cell_from (cells_of_places start) w.0 q w.1 (spread_face n w.0 q w.2))

@@ -179,26 +179,33 @@ fn lowered_all(alloc: Global, places: &[Place], axis: usize) -> Result<Vec<Place
     Ok(all)
 }
 
-/// All faces of the cells, which have so many factors each.
-pub(crate) fn closed(
+/// All faces of the cells, which have so many factors each, or nothing where they are more than so
+/// many. That there are too many is seen after each axis, before the places of the next are made.
+pub(crate) fn closed_within(
     alloc: Global,
     places: Vec<Place>,
     axes: usize,
-) -> Result<Vec<Place>, AllocError>
+    limit: u32,
+) -> Result<Option<Vec<Place>>, AllocError>
     requires axes { axes ≤ MAX_EMBEDDING }
     requires are { ArePlaces places.items }
     requires alike { list_all (is_member axes) (cells_of_places places.items) ≡ true }
-    ensures are { IfOk result (λ all. ArePlaces all.items) }
-    ensures cells { IfOk result (λ all.
-        cells_of_places all.items ≡ cells_of (cells_of_places places.items)) }
+    ensures are { IfOk result (λ all. IfSome all (λ all. ArePlaces all.items)) }
+    ensures cells { IfOk result (λ all. IfSome all (λ all.
+        cells_of_places all.items ≡ cells_of (cells_of_places places.items))) }
+    ensures more { IfOk result (λ all. IfNone all
+        (limit < length (cells_of (cells_of_places places.items)))) }
 {
     let mut all = places;
     for axis in 0..axes {
         let lower = lowered_all(alloc, &all, axis)?;
         let upper = raised_all(alloc, &all, axis)?;
         all = union(alloc, &lower, &upper)?;
+        let Some(_) = count_within(&all, limit) else {
+            return Ok(None);
+        };
     }
-    Ok(all)
+    Ok(Some(all))
 }
 
 /// How many cells there are, or nothing where they are more than so many.

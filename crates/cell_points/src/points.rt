@@ -10,7 +10,7 @@ use crate::cutting::cut_all;
 use crate::fault::PointsFault;
 use crate::mask::{rank_at, turned};
 use crate::place::Place;
-use crate::places::{closed, count_within, firsts_of, places_of};
+use crate::places::{closed_within, count_within, firsts_of, places_of};
 use crate::search::{number_at, place_from, place_of_corner, place_of_number};
 use cube_sets::CubeSet;
 use elem_cubes::Cell;
@@ -49,7 +49,10 @@ impl Points {
     {
         let axes = set.dimension() as usize;
         let members = places_of(alloc, set.cells())?;
-        let faces = closed(alloc, members, axes)?;
+        let closed = closed_within(alloc, members, axes, limit)?;
+        let Some(faces) = closed else {
+            return Err(PointsFault::TooMany);
+        };
         let Some(count) = count_within(&faces, limit) else {
             return Err(PointsFault::TooMany);
         };

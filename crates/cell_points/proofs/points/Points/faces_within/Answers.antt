@@ -10,8 +10,9 @@ places_of-requires c = subst IsSortedCells (sym c.cells.ensures.cells) (sorted_o
 
 pub of_places-requires-clause-cells : goal.of_places-requires-clause-cells
 of_places-requires-clause-cells c =
-    let e : cells_of_places c.in_ok-faces.faces.items ≡ cells_of c.args.set.now.cells = c.in_ok-faces.ensures.cells ∙ ap cells_of (c.in_ok-members.ensures.cells ∙ c.cells.ensures.cells) in
-    let some = c.in-Some.ensures.some in
+    let closed = rw c.in-Some.is at c.in_ok-closed.ensures.cells in
+    let e : cells_of_places c.in-Some.faces.items ≡ cells_of c.args.set.now.cells = closed ∙ ap cells_of (c.in_ok-members.ensures.cells ∙ c.cells.ensures.cells) in
+    let some = c.in-Some-count_within.ensures.some in
     let n = ap (λ ps. length (cells_of_places ps)) c.deref.ensures.value in
     let m = ap length e in
     let l = c.ranges.limit.fits in
