@@ -77,8 +77,8 @@ fn end_of(cell: &Cell, facet: &Cell) -> usize
 }
 
 // The boundary of a cell, of which only terms at cells of the list count. The terms that `terms`
-// holds are not kept. For each end of an axis `near` has the number behind that of the facet that
-// was found there last: cells in order have such facets in order.
+// holds are not kept. For each end of an axis `near` tells where the facet was found there last:
+// cells in order have such facets in order.
 fn boundary_among<const P: u16>(
     alloc: Global,
     field: Field<P>,
@@ -109,10 +109,9 @@ fn push_facet<const P: u16>(
     ensures { OnOk result (AddsFacet P cells.now facet.0 facet.1 terms.old.items terms.new.items) }
 {
     let (cell, sign) = facet;
-    let Some(number) = cells.number_near(&cell, *near) else {
+    let Some(number) = cells.number_near(&cell, near) else {
         return Ok(());
     };
-    *near = number.saturating_add(1);
     terms.push((number, field.of_i64(i64::from(sign))))?;
     Ok(())
 }

@@ -110,10 +110,27 @@ impl Numbered {
         Some(place as u32)
     }
 
-    // The same, found sooner where the cell is one of the few from a place on.
-    pub(crate) fn number_near(&self, cell: &Cell, near: u32) -> Option<u32>
+    /// The number of a cell, or `None` where it is not there. It is found sooner where the cell
+    /// stands a few cells behind the one that was found with this `near` before; at first `near` is
+    /// 0.
+    pub fn number_near(&self, cell: &Cell, near: &mut u32) -> Option<u32>
         ensures found { IsSome result ↔ Contains self.now cell.now }
         ensures place { IfSome result (λ number. slice_get self.now number ≡ Some cell.now) }
+        ensures number { IfSome result (λ number. number ≡ number_of self.now cell.now) }
+        ensures sorted { IsSortedCells self.now }
+    {
+        let Some(number) = self.number_from(cell, *near) else {
+            return None;
+        };
+        *near = number.saturating_add(1);
+        Some(number)
+    }
+
+    // The same, where the few cells from a place on are looked at first.
+    fn number_from(&self, cell: &Cell, near: u32) -> Option<u32>
+        ensures found { IsSome result ↔ Contains self.now cell.now }
+        ensures place { IfSome result (λ number. slice_get self.now number ≡ Some cell.now) }
+        ensures number { IfSome result (λ number. number ≡ number_of self.now cell.now) }
         ensures sorted { IsSortedCells self.now }
     {
         match place_from(&self.cells, cell, near) {
