@@ -102,9 +102,9 @@ partial_all p cells q left ts c partial none normal reduced = record {
 pub boundaries_none : (p : ℕ) (cells : List (List Factor)) (bs : List (List (ℕ × ℕ))) → bs ≡ [] → AreBoundaries p cells bs × (length bs ≡ 0)
 boundaries_none p cells bs e = (record { each = λ h l. absurd (let n : length bs ≡ 0 = ap length e in omega arith) }, ap length e)
 
-pub boundaries_more : (p : ℕ) (cells items : List (List Factor)) (q : List Factor) (i : ℕ) (bs new : List (List (ℕ × ℕ))) (b : List (ℕ × ℕ))
-    → AreBoundaries p cells bs × (length bs ≡ i) → items ≡ cells → i < length items → q ≡ get_or items i q → new ≡ bs ++ b ∷ [] → IsBoundaryAmong p cells q b → AreBoundaries p cells new × (length new ≡ i + 1)
-boundaries_more p cells items q i bs new b so_far same l read pushed boundary = (
+pub boundaries_more : (p : ℕ) (cells : List (List Factor)) (q : List Factor) (i : ℕ) (bs new : List (List (ℕ × ℕ))) (b : List (ℕ × ℕ))
+    → AreBoundaries p cells bs × (length bs ≡ i) → q ≡ cell_at cells i → new ≡ bs ++ b ∷ [] → IsBoundaryAmong p cells q b → AreBoundaries p cells new × (length new ≡ i + 1)
+boundaries_more p cells q i bs new b so_far read pushed boundary = (
   record {
     each = λ h below. ⊎_elim
         (λ earlier.
@@ -113,7 +113,7 @@ boundaries_more p cells items q i bs new b so_far same l read pushed boundary = 
         (λ not_earlier.
         let k : h ≡ i = omega (arith, not_earlier, below, grown, so_far.1) in
         let e : get_or new h [] ≡ b = ap (λ cs. get_or cs h []) pushed ∙ ap (λ n. get_or (bs ++ b ∷ []) n []) k ∙ get_or_push bs b [] i so_far.1 in
-        let at : q ≡ cell_at cells h = read ∙ get_or_default items i q [] l ∙ ap (λ xs. get_or xs i []) same ∙ ap (λ n. get_or cells n []) (sym k) in
+        let at : q ≡ cell_at cells h = read ∙ ap (λ n. get_or cells n []) (sym k) in
         subst (λ (c : List (ℕ × ℕ)). IsBoundaryAmong p cells (cell_at cells h) c) (sym e) (subst (λ (r : List Factor). IsBoundaryAmong p cells r b) at boundary))
         (cases_lt h i);
   },

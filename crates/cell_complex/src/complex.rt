@@ -35,8 +35,10 @@ fn degrees_of(alloc: Global, cells: &Numbered) -> Result<Vec<u8>, AllocError>
     ensures sorted { IsSortedCells cells.now }
 {
     let mut degrees = Vec::with_capacity(alloc, cells.len() as usize)?;
-    for cell in cells.cells() {
-        degrees.push(degree_of(cell))?;
+    let mut near = 0;
+    for number in 0..cells.len() {
+        let cell = cells.cell_near(number, &mut near);
+        degrees.push(degree_of(&cell))?;
     }
     Ok(degrees)
 }
@@ -60,9 +62,11 @@ fn boundaries_of<const P: u16>(
 {
     let mut boundaries = Vec::with_capacity(alloc, cells.len() as usize)?;
     let mut terms = Vec::new(alloc);
-    let mut near = [0; ENDS];
-    for cell in cells.cells() {
-        let boundary = boundary_among(alloc, field, cells, cell, &mut near, &mut terms)?;
+    let mut near = 0;
+    let mut near_facets = [0; ENDS];
+    for number in 0..cells.len() {
+        let cell = cells.cell_near(number, &mut near);
+        let boundary = boundary_among(alloc, field, cells, &cell, &mut near_facets, &mut terms)?;
         boundaries.push(boundary)?;
     }
     Ok(boundaries)
