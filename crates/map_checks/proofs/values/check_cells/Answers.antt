@@ -6,7 +6,7 @@ use Rattle.map_checks.proofs.values.check_cells.Goals as goal
 
 pub check_value-requires : goal.check_value-requires
 check_value-requires g c =
-    let h : is_cell_of c.args.domain.now.cells c.cell-item.result ≡ true = cell_there c.args.domain.now.cells c.args.cells.now c.requires.cells c.loop-number.number c.cell_near-cell.result (omega (arith, c.len-number-end.ensures.count, c.loop-number-test.true)) (read c.args.cells.now c.loop-number.number c.cell_near-cell.result (omega (arith, c.len-number-end.ensures.count, c.loop-number-test.true)) c.cell_near-cell.ensures) in
+    let h : is_cell_of c.args.domain.now.cells c.cell_near-cell.result ≡ true = cell_there c.args.domain.now.cells c.args.cells.now c.requires.cells c.loop-number.number c.cell_near-cell.result (omega (arith, c.len-number-end.ensures.count, c.loop-number-test.true)) (read c.args.cells.now c.loop-number.number c.cell_near-cell.result (omega (arith, c.len-number-end.ensures.count, c.loop-number-test.true)) c.cell_near-cell.ensures) in
     search rules
 
 pub loop-number-preserved : goal.loop-number-preserved
