@@ -85,11 +85,12 @@ fn left_cells<const P: u16>(
     ensures sorted { IfOk result (λ l. IsStrictlySortedBy cell_cmp l) }
 {
     let mut left = CellList::new(alloc);
+    let mut near = 0;
     for number in 0..cells.len() {
         if !log.alive(number) {
             continue;
         }
-        left.push(cells.cell(number))?;
+        left.push(cells.cell_near(number, &mut near))?;
     }
     Ok(left)
 }
