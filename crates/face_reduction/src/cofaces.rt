@@ -46,7 +46,8 @@ pub(crate) fn cofaces_of<const P: u16>(
 
 // One coface less at all generators that its boundary names.
 pub(crate) fn take_coface<const P: u16>(tallies: &mut [Tally], boundary: &Chain<P>, coface: u32)
-    ensures { AddsAt boundary.now (2 ^ 32 - 1) ((2 ^ 32 - coface) % 2 ^ 32) tallies.old tallies.new }
+    ensures { AddsAt boundary.now (2 ^ 32 - 1) ((2 ^ 32 - coface) % 2 ^ 32) tallies.old
+        tallies.new }
 {
     change_faces(tallies, boundary, u32::MAX, 0u32.wrapping_sub(coface));
 }
