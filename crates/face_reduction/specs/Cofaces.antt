@@ -25,10 +25,12 @@ count_at tallies n = (slice_index_or tallies n (0, 0)).0
 abbrev pub sum_at : List (ℕ × ℕ) → ℕ → ℕ
 sum_at tallies n = (slice_index_or tallies n (0, 0)).1
 
--- of each generator n: how many numbers below m the test of n tells, and their sum, both modulo 2^32
+-- of each generator n: how many numbers below m the test of n tells, and their sum; modulo 2^32
 pub record AreTallies (m : ℕ) (test : ℕ → ℕ → Bool) (tallies : List (ℕ × ℕ)) : Type 0 where
-  pub counts : (n : ℕ) → n < length tallies → Same (2 ^ 32) (count_at tallies n) (weighed m (test n) (λ j. 1))
-  pub sums : (n : ℕ) → n < length tallies → Same (2 ^ 32) (sum_at tallies n) (weighed m (test n) (λ j. j))
+  pub counts : (n : ℕ) → n < length tallies
+      → Same (2 ^ 32) (count_at tallies n) (weighed m (test n) (λ j. 1))
+  pub sums : (n : ℕ) → n < length tallies
+      → Same (2 ^ 32) (sum_at tallies n) (weighed m (test n) (λ j. j))
 
 -- the sum, where the count is one; both modulo 2^32
 abbrev pub only_of : ℕ → ℕ → Option ℕ
@@ -41,8 +43,10 @@ only_at tallies n = only_of (count_at tallies n) (sum_at tallies n)
 -- at each generator that stands in the chain the count has changed by one and the sum by number
 pub record AddsAt (c : List (ℕ × ℕ)) (one number : ℕ) (old new : List (ℕ × ℕ)) : Type 0 where
   pub size : length new ≡ length old
-  pub counts : (n : ℕ) → n < length old → Same (2 ^ 32) (count_at new n) (count_at old n + (if stands_in c n then one else 0))
-  pub sums : (n : ℕ) → n < length old → Same (2 ^ 32) (sum_at new n) (sum_at old n + (if stands_in c n then number else 0))
+  pub counts : (n : ℕ) → n < length old
+      → Same (2 ^ 32) (count_at new n) (count_at old n + (if stands_in c n then one else 0))
+  pub sums : (n : ℕ) → n < length old
+      → Same (2 ^ 32) (sum_at new n) (sum_at old n + (if stands_in c n then number else 0))
 
 -- n waits, unless no number or more than one is told there
 abbrev pub WaitsIfFree : List (ℕ × ℕ) → List ℕ → ℕ → Type 0

@@ -135,7 +135,8 @@ pub(crate) fn wake_all(
 ) -> Result<Front, AllocError>
     ensures { IfOk result (λ w. (k : ℕ) → k < count → WaitsIfFree tallies.now w k) }
 {
-    let mut waiting = Front::new(alloc, newest_first);
+    let room = if newest_first { 0 } else { count as usize };
+    let mut waiting = Front::new(alloc, room, newest_first)?;
     for face in 0..count {
         wake_last(tallies, face, &mut waiting)?;
     }

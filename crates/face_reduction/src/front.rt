@@ -1,5 +1,5 @@
 //! Numbers that wait for their turn, in one of two orders.
-ghost use Rattle.std.specs.Prelude.{◌≡◌, ℕ, ◌<◌, ◌⊎◌, [], true, false, length, OnOk, IfSome, IfNone};
+ghost use Rattle.std.specs.Prelude.{◌≡◌, ℕ, ◌<◌, ◌⊎◌, true, false, length, OnOk, IfSome, IfNone};
 ghost use Rattle.excision.specs.Left.{is_one_of};
 
 use std::alloc::{AllocError, Global};
@@ -23,14 +23,12 @@ impl Model for Front {
 }
 
 impl Front {
-    /// None waits.
-    pub(crate) fn new(alloc: Global, newest_first: bool) -> Front
-        ensures { result ≡ [] }
-    {
-        Front {
-            numbers: VecDeque::new(alloc),
+    /// None waits; there is room for so many.
+    pub(crate) fn new(alloc: Global, room: usize, newest_first: bool) -> Result<Front, AllocError> {
+        Ok(Front {
+            numbers: VecDeque::with_capacity(alloc, room)?,
             newest_first,
-        }
+        })
     }
 
     /// Whether one more number comes in front of all others.
