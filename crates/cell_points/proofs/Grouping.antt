@@ -229,11 +229,12 @@ module _ (cells : List (List Factor)) (i : ℕ) (q : List Factor) (places : List
   step_opened s some last o n =
       let at = at_place cells i q l e in
       let less : corner_cmp group.corner (lower_of q) ≡ Less = ap (λ t. corner_cmp group.corner (lower_of t)) at
-      ∙ higher_corner cells group.corner i s some l last (λ h. o (ap (λ t. corner_cmp group.corner (lower_of t)) at ∙ h)) in
-      (subst (λ (z : Place). IsGrouped (take (i + 1) cells) (places ++ group ∷ []) z) (sym n)
-      (subst (λ (qs : List (List Factor)). IsGrouped qs (places ++ group ∷ []) (with_cell q 0)) (sym (one_taken cells i q l e))
-      (group_opened (take i cells) places group q few less g)),
-      last_corner cells i q next l e (ap (λ (z : Place). z.corner) n))
+      ∙ higher_corner cells group.corner i s some l last (λ h. o (ap (λ t. corner_cmp group.corner (lower_of t)) at ∙ h)) in (
+        subst (λ (z : Place). IsGrouped (take (i + 1) cells) (places ++ group ∷ []) z) (sym n)
+            (subst (λ (qs : List (List Factor)). IsGrouped qs (places ++ group ∷ []) (with_cell q 0)) (sym (one_taken cells i q l e))
+            (group_opened (take i cells) places group q few less g)),
+        last_corner cells i q next l e (ap (λ (z : Place). z.corner) n),
+      )
 
 pub step_first : (cells : List (List Factor)) (q : List Factor) (group : Place) → 0 < length cells → q ≡ get_or cells 0 q → length q ≤ 4 → group ≡ with_cell q 0
     → IsGrouped (take 1 cells) [] group × (group.corner ≡ lower_of (cell_at cells 0))

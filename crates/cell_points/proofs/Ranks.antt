@@ -123,7 +123,7 @@ some_bit zero m l p = absurd (omega arith)
 some_bit (suc n) m l p =
     let half : m / 2 < 2 ^ n = omega (arith, pow-suc 2 n) in
     elim (eqb (m % 2) 1) as (λ b. eqb (m % 2) 1 ≡ b → (k : ℕ) × (has_bit m k ≡ true)) [
-      true ↦ λ t. (0, bit_first m ∙ t)
+      | true ↦ λ t. (0, bit_first m ∙ t)
       | false ↦ λ f. let e = even_from m f in let w = some_bit n (m / 2) half (omega arith) in (suc w.0, bit_next m w.0 ∙ w.1)
     ] refl
 

@@ -60,20 +60,20 @@ module _ (ps : List Place) (c : List ℤ) (are : ArePlaces ps) where
   pub still_above : (m k : ℕ) → k < length ps → corner_cmp (place_at ps m).corner c ≡ Greater → m ≤ k → corner_cmp (place_at ps k).corner c ≡ Greater
   still_above m k l e h = ⊎_elim
       (λ lt. let t : corner_cmp c (place_at ps k).corner ≡ Less =
-          (lists_total int_cmp_total).trans c (place_at ps m).corner (place_at ps k).corner (above corner_cmp (lists_total int_cmp_total) (place_at ps m).corner c e)
-          (Less-from_sorted place_cmp ps m k (record { corner = []; mask = 0 }) are.sorted lt l) in above' corner_cmp (lists_total int_cmp_total) c (place_at ps k).corner t)
+      (lists_total int_cmp_total).trans c (place_at ps m).corner (place_at ps k).corner (above corner_cmp (lists_total int_cmp_total) (place_at ps m).corner c e)
+      (Less-from_sorted place_cmp ps m k (record { corner = []; mask = 0 }) are.sorted lt l) in above' corner_cmp (lists_total int_cmp_total) c (place_at ps k).corner t)
       (λ ge. let s : m ≡ k = omega arith in ap (λ j. corner_cmp (place_at ps j).corner c) (sym s) ∙ e)
       (cases_lt m k)
 
   -- each place is below or above
   pub nowhere : (n r : ℕ) → ((k : ℕ) → k < n → corner_cmp (place_at ps k).corner c ≡ Less) → ((k : ℕ) → n ≤ k → k < length ps → corner_cmp (place_at ps k).corner c ≡ Greater) → holds_at ps c r ≡ false
   nowhere n r low high = elim (holds_at ps c r) as (λ b. holds_at ps c r ≡ b → holds_at ps c r ≡ false) [
-    true ↦ λ h.
-      let w = At-holds ps c r h in
-      let i = from-In ps w.0 w.1 in
-      let e : corner_cmp (place_at ps i.0).corner c ≡ Equal =
+    | true ↦ λ h.
+        let w = At-holds ps c r h in
+        let i = from-In ps w.0 w.1 in
+        let e : corner_cmp (place_at ps i.0).corner c ≡ Equal =
         ap (λ (p : Place). corner_cmp p.corner c) (get_or_default ps i.0 (record { corner = []; mask = 0 }) w.0 i.1 ∙ i.2) ∙ ap (λ d. corner_cmp d c) w.2 ∙ tied_itself (lists_total int_cmp_total) c in
-      absurd (⊎_elim (λ lt. let z = low i.0 lt in less_not_equal (sym z ∙ e)) (λ ge. let z = high i.0 ge i.1 in greater_not_equal (sym z ∙ e)) (cases_lt i.0 n))
+        absurd (⊎_elim (λ lt. let z = low i.0 lt in less_not_equal (sym z ∙ e)) (λ ge. let z = high i.0 ge i.1 in greater_not_equal (sym z ∙ e)) (cases_lt i.0 n))
     | false ↦ λ h. h
   ] refl
 
@@ -127,9 +127,10 @@ numbered ps i r are l k h =
     let b' : j < length (cells_at p) = (let e = length-map (ranks_of p.mask) f in omega arith) in
     let first : get_or (firsts_from 0 ps) i 0 ≡ length (cells_of_places (take i ps)) = first_at ps i 0 are.each l ∙ (let z : 0 + length (cells_of_places (take i ps)) ≡ length (cells_of_places (take i ps)) = omega arith in z) in
     let at : get_or (cells_of_places ps) (length (cells_of_places (take i ps)) + j) [] ≡ get_or (cells_at p) j [] = get_or-flat_map cells_at ps i j (record { corner = []; mask = 0 }) [] l b' in
-    let in_place : get_or (cells_at p) j [] ≡ f (get_or (ranks_of p.mask) j 0) = get_or-map f (ranks_of p.mask) j 0 [] b in
-    (within ps i j (record { corner = []; mask = 0 }) are l b' first,
-    ap (λ n. get_or (cells_of_places ps) (n + j) []) first ∙ at ∙ in_place ∙ ap f (mask_place p.mask r 0 k h))
+    let in_place : get_or (cells_at p) j [] ≡ f (get_or (ranks_of p.mask) j 0) = get_or-map f (ranks_of p.mask) j 0 [] b in (
+      within ps i j (record { corner = []; mask = 0 }) are l b' first,
+      ap (λ n. get_or (cells_of_places ps) (n + j) []) first ∙ at ∙ in_place ∙ ap f (mask_place p.mask r 0 k h),
+    )
 
 -- a place that is found
 pub found_place : (ps : List Place) (c : List ℤ) (i : ℕ) (p : Place) → i < length ps → p ≡ get_or ps i p → corner_cmp p.corner c ≡ Equal → IsPlaceOf ps c i
@@ -165,11 +166,13 @@ pub number_inside : (ps : List Place) (number i : ℕ) → ArePlaces ps → numb
 number_inside ps number i are l h =
     let w : i < length ps = (let a = h.within in let b = length-firsts ps 0 in omega arith) in
     let n = length-next ps i (record { corner = []; mask = 0 }) are.each w in
-    let f = first_at ps i 0 are.each w in
-    (w, ⊎_elim
-    (λ lt. let g = first_at ps (suc i) 0 are.each lt in let a = h.above (omega (arith, length-firsts ps 0)) in let s : i + 1 ≡ suc i = omega arith in let t = ap (λ k. get_or (firsts_from 0 ps) k 0) s in omega arith)
-    (λ ge. let e = ap (λ qs. length (cells_of_places qs)) (take_all (suc i) ps (omega arith)) in omega arith)
-    (cases_lt (suc i) (length ps)))
+    let f = first_at ps i 0 are.each w in (
+      w,
+      ⊎_elim
+          (λ lt. let g = first_at ps (suc i) 0 are.each lt in let a = h.above (omega (arith, length-firsts ps 0)) in let s : i + 1 ≡ suc i = omega arith in let t = ap (λ k. get_or (firsts_from 0 ps) k 0) s in omega arith)
+          (λ ge. let e = ap (λ qs. length (cells_of_places qs)) (take_all (suc i) ps (omega arith)) in omega arith)
+          (cases_lt (suc i) (length ps)),
+    )
 
 pub some_firsts : (ps : List Place) (number : ℕ) → number < length (cells_of_places ps) → (0 < length (firsts_from 0 ps)) × (get_or (firsts_from 0 ps) 0 0 ≤ number)
 some_firsts [] number l = absurd (omega arith)

@@ -52,9 +52,10 @@ module _ {K : Type 0} (cmp : K → K → Ordering) (o : IsTotalOrder cmp) where
   unfolding IsStrictlySortedBy
   sorted_between [] xs ys x y e h k = ((e, below_further cmp o x y ys e k.0), k)
   sorted_between (z ∷ out) xs ys x y e h k =
-      let P : K → Type 0 = λ w. cmp z w ≡ Less in
-      (all_append P out (x ∷ y ∷ ys) (all_left P out (x ∷ xs) h.0) ((all_right P out (x ∷ xs) h.0).0, all_right P out (y ∷ ys) k.0),
-       sorted_between out xs ys x y e h.1 k.1)
+      let P : K → Type 0 = λ w. cmp z w ≡ Less in (
+        all_append P out (x ∷ y ∷ ys) (all_left P out (x ∷ xs) h.0) ((all_right P out (x ∷ xs) h.0).0, all_right P out (y ∷ ys) k.0),
+        sorted_between out xs ys x y e h.1 k.1,
+      )
 
   below_alike : (xs : List K) (x z : K) → ((w : K) → cmp z w ≡ cmp x w) → IsBelow cmp x xs → IsBelow cmp z xs
   below_alike [] x z f h = tt

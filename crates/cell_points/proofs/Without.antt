@@ -158,8 +158,12 @@ module _ (others : List Place) (others_are : ArePlaces others) where
       let gone : holds_at others p.corner (rank_of q) ≡ false = is_false (holds_at others p.corner (rank_of q)) (λ h.
       true≢false (sym (In_has (cells_of_places others) q (In_view others q others_are (At-holds others (lower_of q) (rank_of q) (ap (λ c. holds_at others c (rank_of q)) (sym w.2) ∙ h))))
       ∙ not_true (has cell_cmp (cells_of_places others) q) f.1)) in
-      In_view (map (cut others) ps) q (cut_are ps are) (cut others p, map-In (cut others) ps p w.1, w.2,
-      has_cut p (rank_of q) (rank_few q) ∙ both_hold (has_bit p.mask (rank_of q)) (not (holds_at others p.corner (rank_of q))) w.3 (ap not gone))
+      In_view (map (cut others) ps) q (cut_are ps are) (
+        cut others p,
+        map-In (cut others) ps p w.1,
+        w.2,
+        has_cut p (rank_of q) (rank_few q) ∙ both_hold (has_bit p.mask (rank_of q)) (not (holds_at others p.corner (rank_of q))) w.3 (ap not gone),
+      )
 
   below_filtered : (f : List Factor → Bool) (x : List Factor) (xs : List (List Factor)) → IsBelow cell_cmp x xs → IsBelow cell_cmp x (filter f xs)
   below_filtered f x [] h = tt

@@ -1,5 +1,5 @@
--- The cells at a corner as a mask: their ranks, in which the first axis is the highest of four bits, so that ranks stand in the
--- order of cells.
+-- The cells at a corner as a mask: their ranks, in which the first axis is the highest of four
+-- bits, so that ranks stand in the order of cells.
 use Rattle.std.specs.Prelude.{ℕ, zero, suc, ◌+◌, ◌*◌, ◌-◌, ◌/◌, ◌%◌, ◌^◌, List, [], ◌∷◌, Bool, ◌==◌, if◌then◌else◌, bit_and, bit_or}
 use Rattle.std.specs.Int.{bit_at}
 use Rattle.elem_cubes.specs.Range.{most_factors}
@@ -21,7 +21,8 @@ has_bit mask rank = bit_at mask rank == 1
 abbrev pub ranks_from : ℕ → ℕ → ℕ → List ℕ
 ranks_from zero rank mask = []
 ranks_from (suc n) rank mask =
-    if mask % 2 == 1 then rank ∷ ranks_from n (suc rank) (mask / 2) else ranks_from n (suc rank) (mask / 2)
+    if mask % 2 == 1 then rank ∷ ranks_from n (suc rank) (mask / 2) else ranks_from n (suc rank)
+    (mask / 2)
 
 unfoldable pub ranks_of : ℕ → List ℕ
 ranks_of mask = ranks_from 16 0 mask

@@ -62,14 +62,18 @@ up_along axis c = slice_set c axis (slice_index_or c axis (pos 0) +ℤ pos 1)
 -- the upper ends of the cells with an interval along the axis; none where there is no such cell
 abbrev pub raised : ℕ → Place → List Place
 raised axis p =
-    if narrowed axis p.mask == 0 then [] else record { corner = up_along axis p.corner; mask = narrowed axis p.mask } ∷ []
+    if narrowed axis p.mask == 0 then [] else record
+    { corner = up_along axis p.corner; mask = narrowed axis p.mask } ∷ []
 
 abbrev pub raised_all : ℕ → List Place → List Place
 raised_all axis places = flat_map (raised axis) places
 
--- the axis is one of the corner, and the edge from it along the axis is in range, where a cell at the place has an interval there
+-- the axis is one of the corner, and the edge from it along the axis is in range, where a cell at
+-- the place has an interval there
 abbrev pub CanRise : ℕ → Place → Type 0
-CanRise axis p = narrowed axis p.mask ≢ 0 → (axis < length p.corner) × IsTrue (is_cell (cell_of p.corner (2 ^ axis)))
+CanRise axis p =
+    narrowed axis p.mask ≢ 0 → (axis < length p.corner) × IsTrue
+    (is_cell (cell_of p.corner (2 ^ axis)))
 
 -- the cell with this corner and rank is at one of the places
 abbrev pub holds_at : List Place → List ℤ → ℕ → Bool
@@ -101,4 +105,5 @@ mask_of (p ∷ ps) c = bit_or (if is_eq (corner_cmp p.corner c) then p.mask else
 
 -- the place without the cells that are at other places
 abbrev pub cut : List Place → Place → Place
-cut others p = record { corner = p.corner; mask = bit_and p.mask (bit_not w16 (mask_of others p.corner)) }
+cut others p =
+    record { corner = p.corner; mask = bit_and p.mask (bit_not w16 (mask_of others p.corner)) }

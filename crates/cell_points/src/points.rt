@@ -67,11 +67,7 @@ impl Points {
     }
 
     // The cells at these places, so many.
-    fn of_places(
-        alloc: Global,
-        places: Vec<Place>,
-        count: u32,
-    ) -> Result<Points, AllocError>
+    fn of_places(alloc: Global, places: Vec<Place>, count: u32) -> Result<Points, AllocError>
         requires are { ArePlaces places.items }
         requires cells { IsSortedCells (cells_of_places places.items) }
         requires count { count ≡ length (cells_of_places places.items) }

@@ -96,12 +96,7 @@ pub(crate) fn place_of_number(firsts: &[u32], number: u32, near: usize) -> usize
 }
 
 /// The number of a cell whose corner is that of a place.
-pub(crate) fn number_at(
-    places: &[Place],
-    firsts: &[u32],
-    cell: &Cell,
-    place: usize,
-) -> Option<u32>
+pub(crate) fn number_at(places: &[Place], firsts: &[u32], cell: &Cell, place: usize) -> Option<u32>
     requires are { ArePlaces places.now }
     requires firsts { firsts.now ≡ firsts_from 0 places.now }
     requires few { length (cells_of_places places.now) < 2 ^ 32 }
