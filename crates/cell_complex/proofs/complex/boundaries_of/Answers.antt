@@ -1,7 +1,10 @@
-use Rattle.cell_complex.proofs.Collecting.{boundaries_more}
+use Rattle.std.proofs.Common.{refl, []}
+use Rattle.cell_complex.proofs.Collecting.{boundaries_more, partial_all}
 use Rattle.cell_complex.proofs.complex.boundaries_of.Goals as goal
 
-pub loop-cell-preserved : goal.loop-cell-preserved
-loop-cell-preserved g c =
-    boundaries_more g.row.P c.args.cells.now c.cells-cell-items.result.now c.cell-item.result c.loop-cell.cell-index c.loop-cell.boundaries.items c.push.new.self.items c.in_ok-boundary.boundary
-    c.loop-cell.invariant c.cells-cell-items.ensures.value c.loop-cell-test.true c.cell-item.is c.in_ok-push.ensures.items c.in_ok-boundary.ensures
+pub loop-number-preserved : goal.loop-number-preserved
+loop-number-preserved g c =
+    boundaries_more g.row.P c.args.cells.now c.cell_near-cell.result c.loop-number.number c.loop-number.boundaries.items c.push.new.self.items c.in_ok-boundary.boundary
+    c.loop-number.invariant c.cell_near-cell.ensures c.in_ok-push.ensures.items
+    (partial_all g.row.P c.args.cells.now c.cell_near-cell.result [] c.deref.result.now c.in_ok-boundary.boundary
+    (rw c.deref.ensures.value c.in_ok-add_facets.ensures) refl c.in_ok-boundary.ensures.normal c.in_ok-boundary.ensures.sum)
