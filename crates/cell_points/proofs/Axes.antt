@@ -1,17 +1,17 @@
 -- Cells by corner and rank: their order, and what becomes of one whose interval becomes a point.
-use Rattle.std.proofs.Common.{◌≡◌, ◌≢◌, ℕ, zero, suc, ◌+◌, ◌-◌, ◌*◌, ◌/◌, ◌%◌, ◌^◌, ◌<◌, ◌≤◌, ◌⊎◌, inl, inr, ⊎_elim, refl, sym, ap, ◌∙◌, subst, arith, List, [], ◌∷◌, length, get_or, set, Bool, true, false, eqb, ltb, ◌&&◌, true≢false}
+use Rattle.std.proofs.Common.{◌≡◌, ◌≢◌, ℕ, zero, suc, ◌+◌, ◌-◌, ◌/◌, ◌%◌, ◌^◌, ◌<◌, ◌≤◌, ⊎_elim, refl, sym, ap, ◌∙◌, arith, List, [], ◌∷◌, length, get_or, set, Bool, true, false, eqb, ltb, ◌&&◌, true≢false}
 use Rattle.std.specs.Prelude.{ℤ, pos, ◌+ℤ◌, ◌||◌, not}
 use Rattle.std.specs.Int.{bit_at}
 use Rattle.std.specs.Ordering.{ordering_then}
-use Rattle.std.specs.declared.cmp.Ordering.TheVariants.{Less, Equal, Greater}
+use Rattle.std.specs.declared.cmp.Ordering.TheVariants.{Less, Equal}
 use Rattle.std.specs.Cmp.{tied_itself}
 use Rattle.std.proofs.lemmas.Cmp.{lists_total, int_cmp_total}
-use Rattle.std.proofs.lemmas.Bool.{eqb-true, eq-eqb, cases_lt, or_cases}
+use Rattle.std.proofs.lemmas.Bool.{eqb-true, cases_lt, or_cases}
 use Rattle.elem_cubes.specs.Range.{most_factors}
 use Rattle.elem_cubes.specs.Corners.{corner_cmp}
-use Rattle.elem_cubes.specs.Cells.{Factor, point, interval, factor_of, low, high, is_wide, lower_of, upper_of, axes_of, cell_of}
+use Rattle.elem_cubes.specs.Cells.{Factor, point, interval, factor_of, low, is_wide, lower_of, upper_of, axes_of, cell_of}
 use Rattle.elem_cubes.specs.Order.{cell_cmp}
-use Rattle.elem_cubes.specs.KeepingLemmas.{lower-cell_of, length-cell_of, axes-cell_of}
+use Rattle.elem_cubes.specs.KeepingLemmas.{lower-cell_of, axes-cell_of}
 use Rattle.elem_cubes.specs.Walks.{factor_at}
 use Rattle.std.proofs.Math.Nat.{pow-suc}
 use Rattle.std.proofs.lemmas.Int.{ints}
@@ -21,10 +21,9 @@ use Rattle.elem_cubes.proofs.Uppers.{uppers_greater}
 use Rattle.elem_cubes.proofs.Bits.{wide_at, cell_set, parts_of_cell}
 use Rattle.cube_sets.proofs.Sorting.{and_true}
 use Rattle.cube_sets.proofs.Merging.{above}
-use Rattle.elem_cubes.specs.OrderLemmas.{cell_cmp_total}
 use Rattle.cell_points.specs.Masks.{turned, has_bit, wide_along, fall_along}
 use Rattle.cell_points.specs.Places.{rank_of, up_along}
-use Rattle.cell_points.proofs.Ranks.{all_below, below, turned_twice, turned_few}
+use Rattle.cell_points.proofs.Ranks.{all_below, below, turned_twice}
 
 pub axes_few : (n a : ℕ) → n ≤ most_factors → a < 2 ^ n → a < 16
 axes_few zero a l h = omega arith

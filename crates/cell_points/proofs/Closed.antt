@@ -1,7 +1,7 @@
 -- The cells of places closed along the first axes, and along all of them: all faces.
-use Rattle.std.proofs.Common.{◌≡◌, ℕ, zero, suc, ◌+◌, ◌<◌, ◌≤◌, inl, inr, ⊎_elim, refl, sym, ap, ◌∙◌, subst, arith, List, [], ◌∷◌, length, Bool, true, false, map}
+use Rattle.std.proofs.Common.{◌≡◌, ℕ, suc, ◌+◌, ◌<◌, ◌≤◌, inl, inr, ⊎_elim, refl, sym, ap, ◌∙◌, subst, arith, List, [], ◌∷◌, length, Bool, true, false, map}
 use Rattle.std.specs.Prelude.{ℤ, ◌||◌}
-use Rattle.std.specs.List.{list_all, list_any, AllByRecursion}
+use Rattle.std.specs.List.{list_all, AllByRecursion}
 use Rattle.std.specs.Cmp.{both_ways}
 use Rattle.std.proofs.lemmas.Bool.{or_cases, true≢false}
 use Rattle.elem_cubes.specs.Cells.{Factor, is_file_factor}
@@ -20,7 +20,7 @@ use Rattle.cell_points.specs.Places.{cells_of_places, ArePlaces, CanRise, holds_
 use Rattle.cell_points.specs.declared.place.Place.{Place}
 use Rattle.cell_points.proofs.Spreading.{IsSpread, spread_step, spread_back, spread_face, face_spread}
 use Rattle.cell_points.proofs.Views.{sorted_cells}
-use Rattle.cell_points.proofs.Closing.{lowered_are, raised_are, can_rise, reaches, step_from, step_to}
+use Rattle.cell_points.proofs.Closing.{can_rise, reaches, step_from, step_to}
 
 -- the places have the cells that come from those of the start along so many axes
 pub record IsClosedTo (n : ℕ) (start places : List Place) : Type 0 where

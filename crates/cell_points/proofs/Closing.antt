@@ -1,7 +1,7 @@
 -- The cells of places and their ends along an axis, as places.
-use Rattle.std.proofs.Common.{◌≡◌, ◌≢◌, ℕ, zero, suc, ◌+◌, ◌<◌, ◌≤◌, ◌^◌, ◌/◌, ◌%◌, ◌⊎◌, inl, inr, ⊎_elim, refl, sym, ap, ◌∙◌, subst, arith, List, [], ◌∷◌, ◌++◌, length, map, set, get_or, Bool, true, false, eqb, ◌&&◌, true≢false}
+use Rattle.std.proofs.Common.{◌≡◌, ◌≢◌, ℕ, zero, suc, ◌+◌, ◌<◌, ◌≤◌, ◌^◌, ◌/◌, ◌%◌, inl, inr, ⊎_elim, refl, sym, ap, ◌∙◌, subst, arith, List, [], ◌∷◌, ◌++◌, length, map, get_or, Bool, true, false, eqb, ◌&&◌, true≢false}
 use Rattle.std.specs.Prelude.{if◌then◌else◌, nat_le, ℤ, pos, ◌+ℤ◌, ◌<ℤ◌, bit_or, bit_and, ◌||◌, IsTrue}
-use Rattle.std.specs.List.{list_any, list_all, flat_map, AllByRecursion}
+use Rattle.std.specs.List.{list_all, AllByRecursion}
 use Rattle.std.specs.List.Sorted.{IsStrictlySortedBy}
 use Rattle.std.specs.Ordering.{is_eq, int_cmp, ordering_then}
 use Rattle.std.specs.Cmp.{int_cmp_is, tied_itself}
@@ -28,8 +28,7 @@ use Rattle.cell_points.specs.declared.place.Place.{Place}
 use Rattle.cell_points.proofs.Ranks.{has_or, has_narrowed, turned_few, bit_within, some_bit}
 use Rattle.cell_points.proofs.Axes.{with_end, lower_end, upper_end, is_wide_there, wide_of, wide_falls, wide_within, length-lower, rank_of_ranked, ranked_rank_of, fits_fallen}
 use Rattle.cell_points.proofs.Spreading.{IsStep}
-use Rattle.cell_points.proofs.Unions.{place_total}
-use Rattle.cell_points.proofs.Views.{At, all_at, all_from, view_In, In_view, ranked_In, cell_of_place}
+use Rattle.cell_points.proofs.Views.{At, all_at, all_from, view_In, In_view, ranked_In}
 
 -- ---- the test of a place, and the place
 
@@ -184,11 +183,15 @@ module _ (axis : ℕ) (l : axis < 4) where
         (λ t. (q, In_view ps q are (p, v.1, at, t), inl refl))
         (λ t.
         let n = narrowed_bit p.mask (rank_of q) t in
-        let s = short q p v.1 (sym (ap length at)) in
-        (cell_of p.corner (turned (fall_along axis + rank_of q)), fallen_In p (rank_of q) v.1 t,
-        inr (is_wide_there axis (rank_of q) p.corner l (rank_few p (rank_of q) v.1 t) (reach_at p (rank_of q) v.1 t) ((place_of p v.1).short) n.1,
-        inl (lower_end axis (rank_of q) p.corner l (rank_few p (rank_of q) v.1 t) (reach_at p (rank_of q) v.1 t) ((place_of p v.1).short) n.1
-        ∙ ap (λ c. cell_of c (turned (rank_of q))) at ∙ ranked_rank_of q s))))
+        let s = short q p v.1 (sym (ap length at)) in (
+          cell_of p.corner (turned (fall_along axis + rank_of q)),
+          fallen_In p (rank_of q) v.1 t,
+          inr (
+            is_wide_there axis (rank_of q) p.corner l (rank_few p (rank_of q) v.1 t) (reach_at p (rank_of q) v.1 t) ((place_of p v.1).short) n.1,
+            inl (lower_end axis (rank_of q) p.corner l (rank_few p (rank_of q) v.1 t) (reach_at p (rank_of q) v.1 t) ((place_of p v.1).short) n.1
+                ∙ ap (λ c. cell_of c (turned (rank_of q))) at ∙ ranked_rank_of q s),
+          ),
+        ))
         (or_cases (has_bit p.mask (rank_of q)) (has_bit (narrowed axis p.mask) (rank_of q)) (sym (has_or p.mask (narrowed axis p.mask) (rank_of q)) ∙ b))
 
     raised_one : (p z : Place) → In (raised axis p) z → (up_along axis p.corner ≡ z.corner) × (narrowed axis p.mask ≡ z.mask)
@@ -206,11 +209,15 @@ module _ (axis : ℕ) (l : axis < 4) where
         let t : has_bit (narrowed axis p.mask) (rank_of q) ≡ true = ap (λ m. has_bit m (rank_of q)) z.1 ∙ w.3 in
         let n = narrowed_bit p.mask (rank_of q) t in
         let s = short q p v.1 (sym (ap length at) ∙ length-set p.corner axis (get_or p.corner axis (pos 0) +ℤ pos 1)) in
-        let h = reach_at p (rank_of q) v.1 t in
-        (cell_of p.corner (turned (fall_along axis + rank_of q)), fallen_In p (rank_of q) v.1 t,
-        inr (is_wide_there axis (rank_of q) p.corner l (rank_few p (rank_of q) v.1 t) h ((place_of p v.1).short) n.1,
-        inr (upper_end axis (rank_of q) p.corner l (rank_few p (rank_of q) v.1 t) h ((place_of p v.1).short) n.1
-        ∙ ap (λ c. cell_of c (turned (rank_of q))) at ∙ ranked_rank_of q s)))
+        let h = reach_at p (rank_of q) v.1 t in (
+          cell_of p.corner (turned (fall_along axis + rank_of q)),
+          fallen_In p (rank_of q) v.1 t,
+          inr (
+            is_wide_there axis (rank_of q) p.corner l (rank_few p (rank_of q) v.1 t) h ((place_of p v.1).short) n.1,
+            inr (upper_end axis (rank_of q) p.corner l (rank_few p (rank_of q) v.1 t) h ((place_of p v.1).short) n.1
+                ∙ ap (λ c. cell_of c (turned (rank_of q))) at ∙ ranked_rank_of q s),
+          ),
+        )
 
     pub step_from : (q : List Factor) → In (cells_of_places all) q → (t : List Factor) × In (cells_of_places ps) t × IsStep axis t q
     step_from q m =
@@ -250,7 +257,10 @@ module _ (axis : ℕ) (l : axis < 4) where
         let k : rank_of t < 16 = turned_few (axes_of t) in
         let b : has_bit p.mask (fall_along axis + f.0) ≡ true = ap (has_bit p.mask) (sym f.1) ∙ v.3 in
         record {
-          place = p; there = v.1; corner = v.2; rank = f.0;
+          place = p;
+          there = v.1;
+          corner = v.2;
+          rank = f.0;
           few = omega (arith, f.1);
           bit = has_narrowed axis p.mask f.0 ∙ both_hold (has_bit p.mask (fall_along axis + f.0)) (has_bit (wide_along axis) (fall_along axis + f.0)) b f.2;
           wide = f.2;
@@ -264,9 +274,13 @@ module _ (axis : ℕ) (l : axis < 4) where
         let e : with_end axis (pos 0) t ≡ cell_of p.corner (turned f.rank) = ap (with_end axis (pos 0)) f.is ∙ lower_end axis f.rank p.corner l f.few h ((place_of p f.there).short) f.wide in
         let fits = narrowed_fits p (place_of p f.there) f.rank f.bit in
         subst (λ (q : List Factor). In (cells_of_places all) q) (sym e)
-        (all_low (cell_of p.corner (turned f.rank)) (lowered axis p, map-In (lowered axis) ps p f.there, sym (lower-cell_of p.corner (turned f.rank)),
-        ap (has_bit (bit_or p.mask (narrowed axis p.mask))) (rank_of_ranked p.corner f.rank f.few fits)
-        ∙ has_or p.mask (narrowed axis p.mask) f.rank ∙ or_second (has_bit p.mask f.rank) (has_bit (narrowed axis p.mask) f.rank) f.bit))
+        (all_low (cell_of p.corner (turned f.rank)) (
+          lowered axis p,
+          map-In (lowered axis) ps p f.there,
+          sym (lower-cell_of p.corner (turned f.rank)),
+          ap (has_bit (bit_or p.mask (narrowed axis p.mask))) (rank_of_ranked p.corner f.rank f.few fits)
+              ∙ has_or p.mask (narrowed axis p.mask) f.rank ∙ or_second (has_bit p.mask f.rank) (has_bit (narrowed axis p.mask) f.rank) f.bit,
+        ))
 
     raised_In : (p : Place) (r : ℕ) → has_bit (narrowed axis p.mask) r ≡ true → In (raised axis p) (record { corner = up_along axis p.corner; mask = narrowed axis p.mask })
     raised_In p r b = cond_both (eqb (narrowed axis p.mask) 0) [] (record { corner = up_along axis p.corner; mask = narrowed axis p.mask } ∷ [])
@@ -282,15 +296,23 @@ module _ (axis : ℕ) (l : axis < 4) where
         let e : with_end axis (pos 1) t ≡ cell_of (up_along axis p.corner) (turned f.rank) = ap (with_end axis (pos 1)) f.is ∙ upper_end axis f.rank p.corner l f.few h ((place_of p f.there).short) f.wide in
         let fits = (raised_place p (place_of p f.there)).fits f.rank f.bit in
         subst (λ (q : List Factor). In (cells_of_places all) q) (sym e)
-        (all_up (cell_of (up_along axis p.corner) (turned f.rank)) (z, flat-In (raised axis) ps p z f.there (raised_In p f.rank f.bit), sym (lower-cell_of (up_along axis p.corner) (turned f.rank)),
-        ap (has_bit (narrowed axis p.mask)) (rank_of_ranked (up_along axis p.corner) f.rank f.few fits) ∙ f.bit))
+        (all_up (cell_of (up_along axis p.corner) (turned f.rank)) (
+          z,
+          flat-In (raised axis) ps p z f.there (raised_In p f.rank f.bit),
+          sym (lower-cell_of (up_along axis p.corner) (turned f.rank)),
+          ap (has_bit (narrowed axis p.mask)) (rank_of_ranked (up_along axis p.corner) f.rank f.few fits) ∙ f.bit,
+        ))
 
     pub step_to : (t q : List Factor) → In (cells_of_places ps) t → IsStep axis t q → In (cells_of_places all) q
     step_to t q m (inl e) =
         let v = view_In ps t are m in
         subst (λ (q : List Factor). In (cells_of_places all) q) e
-        (all_low t (lowered axis v.0, map-In (lowered axis) ps v.0 v.1, v.2,
-        has_or v.0.mask (narrowed axis v.0.mask) (rank_of t) ∙ or_first (has_bit v.0.mask (rank_of t)) (has_bit (narrowed axis v.0.mask) (rank_of t)) v.3))
+        (all_low t (
+          lowered axis v.0,
+          map-In (lowered axis) ps v.0 v.1,
+          v.2,
+          has_or v.0.mask (narrowed axis v.0.mask) (rank_of t) ∙ or_first (has_bit v.0.mask (rank_of t)) (has_bit (narrowed axis v.0.mask) (rank_of t)) v.3,
+        ))
     step_to t q m (inr (w, inl e)) = subst (λ (q : List Factor). In (cells_of_places all) q) e (low_end_In t (fallen t m w))
     step_to t q m (inr (w, inr e)) = subst (λ (q : List Factor). In (cells_of_places all) q) e (up_end_In t (fallen t m w))
 

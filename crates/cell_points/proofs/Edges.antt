@@ -1,10 +1,10 @@
 -- The edge from a corner along an axis.
-use Rattle.std.proofs.Common.{◌≡◌, ℕ, zero, suc, ◌+◌, ◌*◌, ◌/◌, ◌%◌, ◌^◌, ◌<◌, ◌≤◌, refl, sym, ap, ◌∙◌, subst, arith, List, [], ◌∷◌, length, get_or, set, Bool, true, false, eqb, Option, Some, None, IsSome, rules}
-use Rattle.std.specs.Prelude.{ℤ, pos, ◌+ℤ◌, ◌&&◌, IsTrue, nat_lt, if◌then◌else◌}
+use Rattle.std.proofs.Common.{◌≡◌, ℕ, zero, suc, ◌*◌, ◌/◌, ◌%◌, ◌^◌, ◌<◌, ◌≤◌, refl, ap, ◌∙◌, arith, List, [], ◌∷◌, length, true, eqb, Option, Some, None, IsSome, rules}
+use Rattle.std.specs.Prelude.{ℤ, pos, ◌+ℤ◌, IsTrue, nat_lt, if◌then◌else◌}
 use Rattle.std.proofs.lemmas.Nat.{one_shl, pow_below}
 use Rattle.std.proofs.lemmas.Bool.Decides.{nat_tests}
 use Rattle.std.proofs.Math.Nat.{pow-suc}
-use Rattle.elem_cubes.specs.Cells.{Factor, point, interval, high, upper_of, cell_of, is_cell, checked_of}
+use Rattle.elem_cubes.specs.Cells.{point, interval, high, upper_of, cell_of, is_cell, checked_of}
 use Rattle.cell_points.specs.Places.{up_along}
 
 pub made_some : {A : Type 0} (o : Option A) (x : A) → o ≡ Some x → IsSome o

@@ -1,7 +1,6 @@
 -- Sorted cells, grouped by their corners, one cell after the other.
-use Rattle.std.proofs.Common.{◌≡◌, ◌≢◌, ℕ, zero, suc, ◌+◌, ◌-◌, ◌<◌, ◌≤◌, ◌^◌, ◌⊎◌, inl, inr, ⊎_elim, refl, sym, ap, ◌∙◌, subst, arith, List, [], ◌∷◌, ◌++◌, length, take, get_or, Bool, true, false, eqb, true≢false, ◌&&◌}
-use Rattle.std.specs.Prelude.{ℤ, bit_or, ◌||◌}
-use Rattle.std.specs.List.{list_any, AllByRecursion}
+use Rattle.std.proofs.Common.{◌≡◌, ◌≢◌, ℕ, ◌+◌, ◌-◌, ◌<◌, ◌≤◌, ◌^◌, ◌⊎◌, inl, inr, ⊎_elim, refl, sym, ap, ◌∙◌, subst, arith, List, [], ◌∷◌, ◌++◌, length, take, get_or, Bool, true, false, eqb, true≢false, ◌&&◌}
+use Rattle.std.specs.Prelude.{ℤ, ◌||◌}
 use Rattle.std.specs.List.Sorted.{IsStrictlySortedBy}
 use Rattle.std.specs.Int.{bit_at}
 use Rattle.std.specs.Ordering.{is_eq, ordering_then}
@@ -29,8 +28,8 @@ use Rattle.cell_points.specs.Places.{place_cmp, cells_of_places, rank_of, IsPlac
 use Rattle.cell_points.specs.declared.place.Place.{Place}
 use Rattle.cell_points.proofs.Ranks.{has_or, turned_few, turned_twice}
 use Rattle.cell_points.proofs.Axes.{axes-lt, axes_few, length-lower, ranked_rank_of}
-use Rattle.cell_points.proofs.Views.{At, view_In, In_view, sorted_cells}
-use Rattle.cell_points.proofs.Unions.{place_total, all_left, all_right, all_append, holds-append, replaced_are}
+use Rattle.cell_points.proofs.Views.{view_In, In_view, sorted_cells}
+use Rattle.cell_points.proofs.Unions.{place_total, all_right, all_append, holds-append, replaced_are}
 use Rattle.cell_points.proofs.Closing.{At-holds, holds-At}
 
 nat_other : (a b : ℕ) → (a ≡ b) ⊎ (a ≢ b)
@@ -229,11 +228,12 @@ module _ (cells : List (List Factor)) (i : ℕ) (q : List Factor) (places : List
   step_opened s some last o n =
       let at = at_place cells i q l e in
       let less : corner_cmp group.corner (lower_of q) ≡ Less = ap (λ t. corner_cmp group.corner (lower_of t)) at
-      ∙ higher_corner cells group.corner i s some l last (λ h. o (ap (λ t. corner_cmp group.corner (lower_of t)) at ∙ h)) in
-      (subst (λ (z : Place). IsGrouped (take (i + 1) cells) (places ++ group ∷ []) z) (sym n)
-      (subst (λ (qs : List (List Factor)). IsGrouped qs (places ++ group ∷ []) (with_cell q 0)) (sym (one_taken cells i q l e))
-      (group_opened (take i cells) places group q few less g)),
-      last_corner cells i q next l e (ap (λ (z : Place). z.corner) n))
+      ∙ higher_corner cells group.corner i s some l last (λ h. o (ap (λ t. corner_cmp group.corner (lower_of t)) at ∙ h)) in (
+        subst (λ (z : Place). IsGrouped (take (i + 1) cells) (places ++ group ∷ []) z) (sym n)
+            (subst (λ (qs : List (List Factor)). IsGrouped qs (places ++ group ∷ []) (with_cell q 0)) (sym (one_taken cells i q l e))
+            (group_opened (take i cells) places group q few less g)),
+        last_corner cells i q next l e (ap (λ (z : Place). z.corner) n),
+      )
 
 pub step_first : (cells : List (List Factor)) (q : List Factor) (group : Place) → 0 < length cells → q ≡ get_or cells 0 q → length q ≤ 4 → group ≡ with_cell q 0
     → IsGrouped (take 1 cells) [] group × (group.corner ≡ lower_of (cell_at cells 0))

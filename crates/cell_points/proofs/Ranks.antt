@@ -1,6 +1,6 @@
 -- Masks and ranks: which ranks a mask has, how many, and where each stands; facts on all ranks, tried one after the other.
-use Rattle.std.proofs.Common.{◌≡◌, ℕ, zero, suc, ◌+◌, ◌*◌, ◌-◌, ◌/◌, ◌%◌, ◌^◌, ◌<◌, ◌≤◌, ◌⊎◌, inl, inr, ⊎_elim, refl, sym, ap, ◌∙◌, subst, arith, List, [], ◌∷◌, length, get_or, Bool, true, false, cond, eqb, ◌&&◌, true≢false, min, max}
-use Rattle.std.specs.Prelude.{bit_and, bit_or, ◌==◌, nat_lt, ◌||◌, not}
+use Rattle.std.proofs.Common.{◌≡◌, ℕ, zero, suc, ◌+◌, ◌*◌, ◌/◌, ◌%◌, ◌^◌, ◌<◌, ◌⊎◌, inl, inr, ⊎_elim, refl, sym, ap, ◌∙◌, subst, arith, ◌∷◌, length, get_or, Bool, true, false, eqb, ◌&&◌, true≢false, min, max}
+use Rattle.std.specs.Prelude.{bit_and, bit_or, ◌||◌}
 use Rattle.std.specs.Int.{bit_at}
 use Rattle.std.specs.Int.RustNames.{count_ones}
 use Rattle.std.proofs.Math.Nat.{div-div-eq-div-mul, pow-suc}
@@ -123,7 +123,7 @@ some_bit zero m l p = absurd (omega arith)
 some_bit (suc n) m l p =
     let half : m / 2 < 2 ^ n = omega (arith, pow-suc 2 n) in
     elim (eqb (m % 2) 1) as (λ b. eqb (m % 2) 1 ≡ b → (k : ℕ) × (has_bit m k ≡ true)) [
-      true ↦ λ t. (0, bit_first m ∙ t)
+      | true ↦ λ t. (0, bit_first m ∙ t)
       | false ↦ λ f. let e = even_from m f in let w = some_bit n (m / 2) half (omega arith) in (suc w.0, bit_next m w.0 ∙ w.1)
     ] refl
 

@@ -1,22 +1,18 @@
 -- Searches of places, and the numbers of the cells at a place.
-use Rattle.std.proofs.Common.{◌≡◌, ◌≢◌, ℕ, zero, suc, ◌+◌, ◌-◌, ◌*◌, ◌/◌, ◌%◌, ◌^◌, ◌<◌, ◌≤◌, ◌⊎◌, inl, inr, ⊎_elim, refl, sym, ap, ◌∙◌, subst, arith, List, [], ◌∷◌, ◌++◌, length, take, get_or, map, Bool, true, false, eqb, cond, Some}
-use Rattle.std.specs.Prelude.{ℤ, slice_get, IsTrue}
-use Rattle.std.specs.Int.{bit_at}
+use Rattle.std.proofs.Common.{◌≡◌, ℕ, zero, suc, ◌+◌, ◌-◌, ◌%◌, ◌^◌, ◌<◌, ◌≤◌, inl, inr, ⊎_elim, refl, sym, ap, ◌∙◌, subst, arith, List, [], ◌∷◌, length, take, get_or, Bool, true, false, Some}
+use Rattle.std.specs.Prelude.{ℤ, IsTrue}
 use Rattle.std.specs.Int.RustNames.{count_ones}
-use Rattle.std.specs.List.{Contains, flat_map}
+use Rattle.std.specs.List.{Contains}
 use Rattle.std.specs.List.Sorted.{IsStrictlySortedBy}
 use Rattle.std.specs.declared.cmp.Ordering.{Ordering}
 use Rattle.std.specs.declared.cmp.Ordering.TheVariants.{Less, Equal, Greater}
 use Rattle.std.specs.Ordering.{is_eq}
 use Rattle.std.specs.Cmp.{tied_itself}
 use Rattle.std.proofs.lemmas.Cmp.{lists_total, int_cmp_total}
-use Rattle.std.proofs.lemmas.Bool.{cases_lt, cases_order, true≢false, cond_both, eqb-true}
-use Rattle.std.proofs.lemmas.Nat.{ones_cat, mod-pow-add, and_mask, one_shl, pow_pos}
-use Rattle.std.proofs.lemmas.Nat.Bits.{bit_at-lt}
+use Rattle.std.proofs.lemmas.Bool.{cases_lt, true≢false}
 use Rattle.std.proofs.lemmas.List.{get_or-map, length-map, get_or_default, get_or_past}
 use Rattle.std.proofs.lemmas.List.Concat.{get_or-flat_map}
 use Rattle.std.proofs.lemmas.Map.Keys.{Less-from_sorted}
-use Rattle.std.proofs.lemmas.Option.{slice_get-get_or}
 use Rattle.elem_cubes.specs.Corners.{corner_cmp}
 use Rattle.elem_cubes.specs.Cells.{Factor, is_cell, is_file_factor, lower_of, axes_of, cell_of, checked_of}
 use Rattle.elem_cubes.specs.Order.{cell_cmp}
@@ -36,10 +32,9 @@ use Rattle.cell_points.specs.Masks.{turned, has_bit, ranks_of}
 use Rattle.cell_points.specs.Places.{place_cmp, cells_at, cells_of_places, rank_of, IsPlace, ArePlaces, firsts_from, place_at, IsPlaceOf, IsLastFrom, holds_at}
 use Rattle.cell_points.specs.declared.place.Place.{Place}
 use Rattle.cell_points.proofs.Ranks.{mask_place, turned_few}
-use Rattle.cell_points.proofs.Axes.{ranked_rank_of, length-lower}
+use Rattle.cell_points.proofs.Axes.{ranked_rank_of}
 use Rattle.cell_points.proofs.Counting.{length-firsts, first_at, length-next, length-place, length-front}
-use Rattle.cell_points.proofs.Views.{At, all_at, view_In, In_view}
-use Rattle.cell_points.proofs.Unions.{place_total}
+use Rattle.cell_points.proofs.Views.{At, all_at, view_In}
 use Rattle.cell_points.proofs.Closing.{At-holds, holds-At, cell_in_range, file_factors}
 
 less_not_equal : Less ≡ Equal → ⊥
@@ -60,20 +55,20 @@ module _ (ps : List Place) (c : List ℤ) (are : ArePlaces ps) where
   pub still_above : (m k : ℕ) → k < length ps → corner_cmp (place_at ps m).corner c ≡ Greater → m ≤ k → corner_cmp (place_at ps k).corner c ≡ Greater
   still_above m k l e h = ⊎_elim
       (λ lt. let t : corner_cmp c (place_at ps k).corner ≡ Less =
-          (lists_total int_cmp_total).trans c (place_at ps m).corner (place_at ps k).corner (above corner_cmp (lists_total int_cmp_total) (place_at ps m).corner c e)
-          (Less-from_sorted place_cmp ps m k (record { corner = []; mask = 0 }) are.sorted lt l) in above' corner_cmp (lists_total int_cmp_total) c (place_at ps k).corner t)
+      (lists_total int_cmp_total).trans c (place_at ps m).corner (place_at ps k).corner (above corner_cmp (lists_total int_cmp_total) (place_at ps m).corner c e)
+      (Less-from_sorted place_cmp ps m k (record { corner = []; mask = 0 }) are.sorted lt l) in above' corner_cmp (lists_total int_cmp_total) c (place_at ps k).corner t)
       (λ ge. let s : m ≡ k = omega arith in ap (λ j. corner_cmp (place_at ps j).corner c) (sym s) ∙ e)
       (cases_lt m k)
 
   -- each place is below or above
   pub nowhere : (n r : ℕ) → ((k : ℕ) → k < n → corner_cmp (place_at ps k).corner c ≡ Less) → ((k : ℕ) → n ≤ k → k < length ps → corner_cmp (place_at ps k).corner c ≡ Greater) → holds_at ps c r ≡ false
   nowhere n r low high = elim (holds_at ps c r) as (λ b. holds_at ps c r ≡ b → holds_at ps c r ≡ false) [
-    true ↦ λ h.
-      let w = At-holds ps c r h in
-      let i = from-In ps w.0 w.1 in
-      let e : corner_cmp (place_at ps i.0).corner c ≡ Equal =
+    | true ↦ λ h.
+        let w = At-holds ps c r h in
+        let i = from-In ps w.0 w.1 in
+        let e : corner_cmp (place_at ps i.0).corner c ≡ Equal =
         ap (λ (p : Place). corner_cmp p.corner c) (get_or_default ps i.0 (record { corner = []; mask = 0 }) w.0 i.1 ∙ i.2) ∙ ap (λ d. corner_cmp d c) w.2 ∙ tied_itself (lists_total int_cmp_total) c in
-      absurd (⊎_elim (λ lt. let z = low i.0 lt in less_not_equal (sym z ∙ e)) (λ ge. let z = high i.0 ge i.1 in greater_not_equal (sym z ∙ e)) (cases_lt i.0 n))
+        absurd (⊎_elim (λ lt. let z = low i.0 lt in less_not_equal (sym z ∙ e)) (λ ge. let z = high i.0 ge i.1 in greater_not_equal (sym z ∙ e)) (cases_lt i.0 n))
     | false ↦ λ h. h
   ] refl
 
@@ -127,9 +122,10 @@ numbered ps i r are l k h =
     let b' : j < length (cells_at p) = (let e = length-map (ranks_of p.mask) f in omega arith) in
     let first : get_or (firsts_from 0 ps) i 0 ≡ length (cells_of_places (take i ps)) = first_at ps i 0 are.each l ∙ (let z : 0 + length (cells_of_places (take i ps)) ≡ length (cells_of_places (take i ps)) = omega arith in z) in
     let at : get_or (cells_of_places ps) (length (cells_of_places (take i ps)) + j) [] ≡ get_or (cells_at p) j [] = get_or-flat_map cells_at ps i j (record { corner = []; mask = 0 }) [] l b' in
-    let in_place : get_or (cells_at p) j [] ≡ f (get_or (ranks_of p.mask) j 0) = get_or-map f (ranks_of p.mask) j 0 [] b in
-    (within ps i j (record { corner = []; mask = 0 }) are l b' first,
-    ap (λ n. get_or (cells_of_places ps) (n + j) []) first ∙ at ∙ in_place ∙ ap f (mask_place p.mask r 0 k h))
+    let in_place : get_or (cells_at p) j [] ≡ f (get_or (ranks_of p.mask) j 0) = get_or-map f (ranks_of p.mask) j 0 [] b in (
+      within ps i j (record { corner = []; mask = 0 }) are l b' first,
+      ap (λ n. get_or (cells_of_places ps) (n + j) []) first ∙ at ∙ in_place ∙ ap f (mask_place p.mask r 0 k h),
+    )
 
 -- a place that is found
 pub found_place : (ps : List Place) (c : List ℤ) (i : ℕ) (p : Place) → i < length ps → p ≡ get_or ps i p → corner_cmp p.corner c ≡ Equal → IsPlaceOf ps c i
@@ -165,11 +161,13 @@ pub number_inside : (ps : List Place) (number i : ℕ) → ArePlaces ps → numb
 number_inside ps number i are l h =
     let w : i < length ps = (let a = h.within in let b = length-firsts ps 0 in omega arith) in
     let n = length-next ps i (record { corner = []; mask = 0 }) are.each w in
-    let f = first_at ps i 0 are.each w in
-    (w, ⊎_elim
-    (λ lt. let g = first_at ps (suc i) 0 are.each lt in let a = h.above (omega (arith, length-firsts ps 0)) in let s : i + 1 ≡ suc i = omega arith in let t = ap (λ k. get_or (firsts_from 0 ps) k 0) s in omega arith)
-    (λ ge. let e = ap (λ qs. length (cells_of_places qs)) (take_all (suc i) ps (omega arith)) in omega arith)
-    (cases_lt (suc i) (length ps)))
+    let f = first_at ps i 0 are.each w in (
+      w,
+      ⊎_elim
+          (λ lt. let g = first_at ps (suc i) 0 are.each lt in let a = h.above (omega (arith, length-firsts ps 0)) in let s : i + 1 ≡ suc i = omega arith in let t = ap (λ k. get_or (firsts_from 0 ps) k 0) s in omega arith)
+          (λ ge. let e = ap (λ qs. length (cells_of_places qs)) (take_all (suc i) ps (omega arith)) in omega arith)
+          (cases_lt (suc i) (length ps)),
+    )
 
 pub some_firsts : (ps : List Place) (number : ℕ) → number < length (cells_of_places ps) → (0 < length (firsts_from 0 ps)) × (get_or (firsts_from 0 ps) 0 0 ≤ number)
 some_firsts [] number l = absurd (omega arith)
@@ -269,3 +267,12 @@ found_is ps number i here first r are s l f k b n some =
 -- where no place has the corner, the cell is not there
 pub absent_cell : (ps : List Place) (q : List Factor) → ArePlaces ps → ((r : ℕ) → holds_at ps (lower_of q) r ≡ false) → Contains (cells_of_places ps) q → ⊥
 absent_cell ps q are h w = true≢false (sym (holds-At ps (lower_of q) (rank_of q) (view_In ps q are (In-from (cells_of_places ps) q w))) ∙ h (rank_of q))
+
+-- a corner between two places is at none
+pub between : (ps : List Place) (c : List ℤ) (k : ℕ) (p : Place) (r : Ordering) → ArePlaces ps → k < length ps → 1 ≤ k → corner_cmp (place_at ps (k - 1)).corner c ≡ Less
+    → r ≡ corner_cmp (get_or ps k p).corner c → r ≡ Greater → (n : ℕ) → holds_at ps c n ≡ false
+between ps c k p r are l some low e h n =
+    let high = at_cmp ps c k p r Greater l e h in
+    nowhere ps c are k n
+    (λ j s. still_below ps c are (k - 1) j (omega arith) low (omega arith))
+    (λ j s t. still_above ps c are k j t high s)

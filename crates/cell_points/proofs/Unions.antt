@@ -1,7 +1,7 @@
 -- The places of two lists together: a merge, step by step.
-use Rattle.std.proofs.Common.{◌≡◌, ℕ, zero, suc, ◌+◌, ◌<◌, ◌≤◌, ◌^◌, ◌⊎◌, inl, inr, ⊎_elim, refl, sym, ap, ◌∙◌, subst, arith, List, [], ◌∷◌, ◌++◌, length, drop, get_or, append_assoc, Bool, true, false, ◌&&◌}
+use Rattle.std.proofs.Common.{◌≡◌, ℕ, ◌+◌, ◌<◌, ◌≤◌, ◌^◌, ◌⊎◌, ⊎_elim, refl, sym, ap, ◌∙◌, subst, arith, List, [], ◌∷◌, ◌++◌, length, drop, get_or, append_assoc, Bool, true, false, ◌&&◌}
 use Rattle.std.specs.Prelude.{ℤ, bit_or, ◌||◌}
-use Rattle.std.specs.List.{list_any, AllByRecursion}
+use Rattle.std.specs.List.{AllByRecursion}
 use Rattle.std.specs.List.Sorted.{IsStrictlySortedBy}
 use Rattle.std.specs.Cmp.{IsTotalOrder}
 use Rattle.std.specs.Ordering.{is_eq}
@@ -52,9 +52,10 @@ module _ {K : Type 0} (cmp : K → K → Ordering) (o : IsTotalOrder cmp) where
   unfolding IsStrictlySortedBy
   sorted_between [] xs ys x y e h k = ((e, below_further cmp o x y ys e k.0), k)
   sorted_between (z ∷ out) xs ys x y e h k =
-      let P : K → Type 0 = λ w. cmp z w ≡ Less in
-      (all_append P out (x ∷ y ∷ ys) (all_left P out (x ∷ xs) h.0) ((all_right P out (x ∷ xs) h.0).0, all_right P out (y ∷ ys) k.0),
-       sorted_between out xs ys x y e h.1 k.1)
+      let P : K → Type 0 = λ w. cmp z w ≡ Less in (
+        all_append P out (x ∷ y ∷ ys) (all_left P out (x ∷ xs) h.0) ((all_right P out (x ∷ xs) h.0).0, all_right P out (y ∷ ys) k.0),
+        sorted_between out xs ys x y e h.1 k.1,
+      )
 
   below_alike : (xs : List K) (x z : K) → ((w : K) → cmp z w ≡ cmp x w) → IsBelow cmp x xs → IsBelow cmp z xs
   below_alike [] x z f h = tt

@@ -1,7 +1,7 @@
 -- The cells of places: in order, and which they are.
-use Rattle.std.proofs.Common.{◌≡◌, ℕ, zero, suc, ◌+◌, ◌<◌, ◌≤◌, ◌^◌, ◌⊎◌, inl, inr, ⊎_elim, ◌/◌, ◌%◌, refl, sym, ap, ◌∙◌, subst, arith, List, [], ◌∷◌, ◌++◌, length, map, Bool, true, false, eqb}
+use Rattle.std.proofs.Common.{◌≡◌, ℕ, zero, suc, ◌+◌, ◌<◌, ◌≤◌, ◌^◌, inl, inr, ⊎_elim, ◌/◌, ◌%◌, refl, sym, ap, ◌∙◌, subst, arith, List, [], ◌∷◌, ◌++◌, length, map, true, eqb}
 use Rattle.std.specs.Prelude.{ℤ}
-use Rattle.std.specs.List.{flat_map, AllByRecursion}
+use Rattle.std.specs.List.{AllByRecursion}
 use Rattle.std.specs.List.Sorted.{IsStrictlySortedBy}
 use Rattle.std.specs.declared.cmp.Ordering.{Ordering}
 use Rattle.std.specs.declared.cmp.Ordering.TheVariants.{Less}
@@ -10,7 +10,6 @@ use Rattle.elem_cubes.specs.Cells.{Factor, lower_of, cell_of}
 use Rattle.elem_cubes.specs.Order.{cell_cmp}
 use Rattle.elem_cubes.specs.KeepingLemmas.{lower-cell_of}
 use Rattle.elem_cubes.proofs.Members.{In, In-map, map-In, In-flat, flat-In, In-append}
-use Rattle.cube_sets.proofs.Merging.{IsBelow}
 use Rattle.cell_points.specs.Masks.{turned, has_bit, ranks_from, ranks_of}
 use Rattle.cell_points.specs.Places.{place_cmp, cells_at, cells_of_places, rank_of, IsPlace, ArePlaces}
 use Rattle.cell_points.specs.declared.place.Place.{Place}
@@ -69,12 +68,15 @@ sorted_ranks c (suc n) r m l h =
     λ k b. let e : r + suc k ≡ suc r + k = omega arith in subst (λ (x : ℕ). turned x < 2 ^ length c) e (h (suc k) (bit_next m k ∙ b)) in
     let rest = sorted_ranks c n (suc r) (m / 2) (omega arith) step in
     cond_both (eqb (m % 2) 1) (r ∷ ranks_from n (suc r) (m / 2)) (ranks_from n (suc r) (m / 2)) (λ xs. IsStrictlySortedBy cell_cmp (map f xs))
-    (λ t. (all_from (λ y. cell_cmp (f r) y ≡ Less) (map f (ranks_from n (suc r) (m / 2))) (λ q i.
-    let w = In-map f (ranks_from n (suc r) (m / 2)) q i in
-    let k = ranks_In n (suc r) (m / 2) w.0 w.1 in
-    let e : w.0 ≡ suc r + k.0 = k.2 in
-    subst (λ (s : List Factor). cell_cmp (f r) s ≡ Less) w.2
-    (cells_by_rank c r w.0 (omega (arith, k.2)) (omega (arith, k.1, k.2)) (subst (λ (x : ℕ). turned x < 2 ^ length c) (sym e) (step k.0 k.3)))), rest))
+    (λ t. (
+      all_from (λ y. cell_cmp (f r) y ≡ Less) (map f (ranks_from n (suc r) (m / 2))) (λ q i.
+          let w = In-map f (ranks_from n (suc r) (m / 2)) q i in
+          let k = ranks_In n (suc r) (m / 2) w.0 w.1 in
+          let e : w.0 ≡ suc r + k.0 = k.2 in
+          subst (λ (s : List Factor). cell_cmp (f r) s ≡ Less) w.2
+          (cells_by_rank c r w.0 (omega (arith, k.2)) (omega (arith, k.1, k.2)) (subst (λ (x : ℕ). turned x < 2 ^ length c) (sym e) (step k.0 k.3)))),
+      rest,
+    ))
     (λ _. rest)
 
 sorted_place : (p : Place) → IsPlace p → IsStrictlySortedBy cell_cmp (cells_at p)
@@ -84,9 +86,10 @@ sorted_place p h = sorted_ranks p.corner 16 0 p.mask (omega arith) (λ k b. let 
 pub sorted_append : {K : Type 0} (cmp : K → K → Ordering) (xs ys : List K) → IsStrictlySortedBy cmp xs → IsStrictlySortedBy cmp ys → ((x y : K) → In xs x → In ys y → cmp x y ≡ Less) → IsStrictlySortedBy cmp (xs ++ ys)
 unfolding IsStrictlySortedBy
 sorted_append cmp [] ys h k l = k
-sorted_append cmp (x ∷ xs) ys h k l =
-    (all_from (λ y. cmp x y ≡ Less) (xs ++ ys) (λ y m. ⊎_elim (all_at (λ y. cmp x y ≡ Less) xs y h.0) (λ n. l x y (inl refl) n) (In-append xs ys y m)),
-     sorted_append cmp xs ys h.1 k (λ z y m n. l z y (inr m) n))
+sorted_append cmp (x ∷ xs) ys h k l = (
+  all_from (λ y. cmp x y ≡ Less) (xs ++ ys) (λ y m. ⊎_elim (all_at (λ y. cmp x y ≡ Less) xs y h.0) (λ n. l x y (inl refl) n) (In-append xs ys y m)),
+  sorted_append cmp xs ys h.1 k (λ z y m n. l z y (inr m) n),
+)
 
 sorted_view : (ps : List Place) → IsStrictlySortedBy place_cmp ps → AllByRecursion IsPlace ps → IsStrictlySortedBy cell_cmp (cells_of_places ps)
 unfolding IsStrictlySortedBy

@@ -1,20 +1,18 @@
 -- Places without the cells of other places.
-use Rattle.std.proofs.Common.{◌≡◌, ◌≢◌, ℕ, zero, suc, ◌+◌, ◌-◌, ◌<◌, ◌≤◌, ◌^◌, ◌⊎◌, inl, inr, ⊎_elim, refl, sym, ap, ◌∙◌, subst, arith, List, [], ◌∷◌, length, map, get_or, filter, Bool, true, false, eqb, cond, ◌&&◌, true≢false}
-use Rattle.std.specs.Prelude.{ℤ, not, bit_or, bit_and, ◌||◌}
+use Rattle.std.proofs.Common.{◌≡◌, ℕ, zero, suc, ◌-◌, ◌<◌, ◌≤◌, ◌^◌, inl, inr, ⊎_elim, refl, sym, ap, ◌∙◌, arith, List, [], ◌∷◌, length, map, filter, Bool, true, false, eqb, cond, ◌&&◌, true≢false}
+use Rattle.std.specs.Prelude.{ℤ, not, ◌||◌}
 use Rattle.std.specs.Int.{bit_at, bit_not, w16}
-use Rattle.std.specs.List.{list_any, list_all, AllByRecursion}
+use Rattle.std.specs.List.{list_all, AllByRecursion}
 use Rattle.std.specs.List.Sorted.{IsStrictlySortedBy}
 use Rattle.std.specs.Ordering.{is_eq}
-use Rattle.std.specs.Cmp.{both_ways, tied_itself}
-use Rattle.std.proofs.lemmas.Bool.{or_cases, cond_both, eqb-true, eq-eqb}
-use Rattle.std.proofs.lemmas.Cmp.{lists_total, int_cmp_total}
+use Rattle.std.specs.Cmp.{both_ways}
+use Rattle.std.proofs.lemmas.Bool.{cond_both}
 use Rattle.std.proofs.lemmas.List.{get_or_default}
 use Rattle.std.proofs.lemmas.Nat.{or_lt, and_le_l}
 use Rattle.std.proofs.lemmas.Nat.Bits.{bit_at_not, bit_at-lt, bit_at-zero, same_from_bits}
 use Rattle.elem_cubes.specs.Corners.{corner_cmp}
 use Rattle.elem_cubes.specs.Cells.{Factor, is_file_factor, lower_of, axes_of}
 use Rattle.elem_cubes.specs.Order.{cell_cmp}
-use Rattle.elem_cubes.specs.OrderLemmas.{cell_cmp_total}
 use Rattle.elem_cubes.specs.Laws.{cell_at}
 use Rattle.elem_cubes.proofs.Members.{In, In-map, map-In, from-In}
 use Rattle.cube_sets.specs.Sorted.{has}
@@ -22,12 +20,12 @@ use Rattle.cube_sets.proofs.SameSets.{same_sets}
 use Rattle.cube_sets.proofs.Spreads.{has_In, In_has, In_passes, all_from_In}
 use Rattle.cube_sets.proofs.Sorting.{and_true}
 use Rattle.cube_sets.proofs.Merging.{IsBelow}
-use Rattle.cell_points.specs.Masks.{turned, has_bit}
+use Rattle.cell_points.specs.Masks.{has_bit}
 use Rattle.cell_points.specs.Sorted.{IsSortedCells, without}
 use Rattle.cell_points.specs.Places.{place_cmp, cells_of_places, rank_of, IsPlace, ArePlaces, holds_at, place_at, IsPlaceOf, mask_of, cut}
 use Rattle.cell_points.specs.declared.place.Place.{Place}
-use Rattle.cell_points.proofs.Ranks.{has_or, has_and, turned_few, bit_within}
-use Rattle.cell_points.proofs.Views.{At, all_at, view_In, In_view, sorted_cells}
+use Rattle.cell_points.proofs.Ranks.{has_or, has_and, turned_few}
+use Rattle.cell_points.proofs.Views.{view_In, In_view, sorted_cells}
 use Rattle.cell_points.proofs.Closing.{At-holds, holds-At}
 use Rattle.cell_points.proofs.Searching.{only, at_In}
 
@@ -158,8 +156,12 @@ module _ (others : List Place) (others_are : ArePlaces others) where
       let gone : holds_at others p.corner (rank_of q) ≡ false = is_false (holds_at others p.corner (rank_of q)) (λ h.
       true≢false (sym (In_has (cells_of_places others) q (In_view others q others_are (At-holds others (lower_of q) (rank_of q) (ap (λ c. holds_at others c (rank_of q)) (sym w.2) ∙ h))))
       ∙ not_true (has cell_cmp (cells_of_places others) q) f.1)) in
-      In_view (map (cut others) ps) q (cut_are ps are) (cut others p, map-In (cut others) ps p w.1, w.2,
-      has_cut p (rank_of q) (rank_few q) ∙ both_hold (has_bit p.mask (rank_of q)) (not (holds_at others p.corner (rank_of q))) w.3 (ap not gone))
+      In_view (map (cut others) ps) q (cut_are ps are) (
+        cut others p,
+        map-In (cut others) ps p w.1,
+        w.2,
+        has_cut p (rank_of q) (rank_few q) ∙ both_hold (has_bit p.mask (rank_of q)) (not (holds_at others p.corner (rank_of q))) w.3 (ap not gone),
+      )
 
   below_filtered : (f : List Factor → Bool) (x : List Factor) (xs : List (List Factor)) → IsBelow cell_cmp x xs → IsBelow cell_cmp x (filter f xs)
   below_filtered f x [] h = tt
@@ -198,3 +200,9 @@ module _ (others : List Place) (others_are : ArePlaces others) where
         in_range = all_from_In (list_all is_file_factor) (filter f xs) (λ q m. In_passes (list_all is_file_factor) xs q h.in_range (filter_In f xs q m).0);
         few = let l = length_filtered f xs in let k = h.few in omega arith;
       }
+
+-- where the others are none, all cells stay
+pub without_none : (xs ys : List (List Factor)) (n : ℕ) → n ≡ length ys → n ≡ 0 → xs ≡ without xs ys
+without_none xs (y ∷ ys) n e z = absurd (omega arith)
+without_none [] [] n e z = refl
+without_none (x ∷ xs) [] n e z = ap (λ l. x ∷ l) (without_none xs [] n e z)

@@ -1,6 +1,6 @@
 -- The cells at a corner as a mask: their ranks, in which the first axis is the highest of four bits, so that ranks stand in the
 -- order of cells.
-use Rattle.std.specs.Prelude.{ℕ, zero, suc, ◌+◌, ◌*◌, ◌-◌, ◌/◌, ◌%◌, ◌^◌, List, [], ◌∷◌, Bool, ◌==◌, if◌then◌else◌, bit_and, bit_or}
+use Rattle.std.specs.Prelude.{ℕ, zero, suc, ◌+◌, ◌*◌, ◌/◌, ◌%◌, ◌^◌, List, [], ◌∷◌, Bool, ◌==◌, if◌then◌else◌, bit_and}
 use Rattle.std.specs.Int.{bit_at}
 use Rattle.elem_cubes.specs.Range.{most_factors}
 

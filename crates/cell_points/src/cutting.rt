@@ -1,5 +1,5 @@
 //! Places without the cells of other places.
-ghost use Rattle.std.specs.Prelude.{◌≡◌, ◌<◌, length, map, IfOk};
+ghost use Rattle.std.specs.Prelude.{◌≡◌, ◌<◌, map, IfOk};
 ghost use Rattle.cell_points.specs.Places.{ArePlaces, cut, mask_of};
 
 use crate::place::Place;

@@ -1,7 +1,7 @@
 //! Masks of the cells at a corner.
 ghost use Rattle.std.specs.Prelude.{◌≡◌, ◌<◌, ◌%◌, ◌^◌, true};
 ghost use Rattle.std.specs.Int.RustNames.{count_ones};
-ghost use Rattle.cell_points.specs.Masks.{turned, has_bit, ranks_of, wide_along, fall_along, narrowed};
+ghost use Rattle.cell_points.specs.Masks.{turned, has_bit, wide_along, fall_along, narrowed};
 ghost use Rattle.cell_points.specs.Places.{rank_of};
 
 use elem_cubes::Cell;

@@ -1,12 +1,11 @@
 //! Lists of places: of sorted cells, of two lists together, and of all faces.
-ghost use Rattle.std.specs.Prelude.{◌≡◌, ◌<◌, ◌≤◌, ◌^◌, ◌||◌, ◌++◌, ◌∷◌, ℤ, ℕ, List, [], drop, length, map, true, IsTrue, IfOk, OnOk, IfSome, IfNone, slice_index_or};
+ghost use Rattle.std.specs.Prelude.{◌≡◌, ◌<◌, ◌≤◌, ◌^◌, ◌||◌, ◌++◌, ℤ, ℕ, List, drop, length, map, true, IsTrue, IfOk, OnOk, IfSome, IfNone};
 ghost use Rattle.std.specs.List.{list_all, AllByRecursion};
 ghost use Rattle.elem_cubes.specs.Cells.{is_cell, cell_of};
-ghost use Rattle.elem_cubes.specs.Laws.{cell_at};
 ghost use Rattle.cube_sets.specs.Sets.{is_member};
 ghost use Rattle.cube_sets.specs.Closures.{cells_of};
 ghost use Rattle.cell_points.specs.Sorted.{IsSortedCells};
-ghost use Rattle.cell_points.specs.Places.{ArePlaces, CanRise, cells_at, cells_of_places, firsts_from, holds_at, lowered, raised, raised_all, up_along, with_cell};
+ghost use Rattle.cell_points.specs.Places.{ArePlaces, CanRise, cells_of_places, firsts_from, holds_at, lowered, raised, raised_all, up_along, with_cell};
 
 use crate::mask::{narrowed, rank_of};
 use crate::place::Place;

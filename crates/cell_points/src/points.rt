@@ -67,11 +67,7 @@ impl Points {
     }
 
     // The cells at these places, so many.
-    fn of_places(
-        alloc: Global,
-        places: Vec<Place>,
-        count: u32,
-    ) -> Result<Points, AllocError>
+    fn of_places(alloc: Global, places: Vec<Place>, count: u32) -> Result<Points, AllocError>
         requires are { ArePlaces places.items }
         requires cells { IsSortedCells (cells_of_places places.items) }
         requires count { count ≡ length (cells_of_places places.items) }
@@ -89,6 +85,9 @@ impl Points {
     pub fn without(self, alloc: Global, others: &Points) -> Result<Points, AllocError>
         ensures { IfOk result (λ points. points ≡ without self others.now) }
     {
+        if others.count == 0 {
+            return Ok(self);
+        }
         let places = cut_all(alloc, &self.places, &others.places)?;
         let count = count_within(&places, self.count).unwrap();
         Points::of_places(alloc, places, count)

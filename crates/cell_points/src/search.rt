@@ -12,21 +12,6 @@ use std::cmp::Ordering;
 // How many places are looked at one by one before a search of all.
 const FEW: usize = 16;
 
-// The place with this corner, where it is one of the few from a place on.
-fn place_near(places: &[Place], corner: &Corner, near: usize) -> Option<usize>
-    ensures { IfSome result (IsPlaceOf places.now corner.now) }
-{
-    let end = near.saturating_add(FEW).min(places.len());
-    for place in near..end {
-        match places[place].corner.cmp(corner) {
-            Ordering::Less => {}
-            Ordering::Equal => return Some(place),
-            Ordering::Greater => return None,
-        }
-    }
-    None
-}
-
 /// The place with this corner, where there is one.
 pub(crate) fn place_of_corner(places: &[Place], corner: &Corner) -> Option<usize>
     requires { ArePlaces places.now }
@@ -46,16 +31,27 @@ pub(crate) fn place_of_corner(places: &[Place], corner: &Corner) -> Option<usize
     None
 }
 
-/// The same, found sooner where it is one of the few from a place on.
+/// The same, found sooner where it is one of the few from a place on, or would stand among them.
 pub(crate) fn place_from(places: &[Place], corner: &Corner, near: usize) -> Option<usize>
     requires { ArePlaces places.now }
     ensures some { IfSome result (IsPlaceOf places.now corner.now) }
     ensures none { IfNone result ((r : ℕ) → holds_at places.now corner.now r ≡ false) }
 {
-    match place_near(places, corner, near) {
-        Some(place) => Some(place),
-        None => place_of_corner(places, corner),
+    let end = near.saturating_add(FEW).min(places.len());
+    let mut below = false;
+    for place in near..end {
+        match places[place].corner.cmp(corner) {
+            Ordering::Less => below = true,
+            Ordering::Equal => return Some(place),
+            Ordering::Greater => {
+                if below {
+                    return None;
+                }
+                return place_of_corner(places, corner);
+            }
+        }
     }
+    place_of_corner(places, corner)
 }
 
 // Whether the number is between that of the place and that of the next.
@@ -68,20 +64,12 @@ fn is_from(firsts: &[u32], number: u32, place: usize) -> bool
     place + 1 == firsts.len() || number < firsts[place + 1]
 }
 
-/// The place whose first number is the last that is not above a number, found sooner where it is
-/// `near` or the next.
-pub(crate) fn place_of_number(firsts: &[u32], number: u32, near: usize) -> usize
+// The place whose first number is the last that is not above a number, by a search of all.
+fn searched(firsts: &[u32], number: u32) -> usize
     requires some { 0 < length firsts.now }
     requires first { slice_index_or firsts.now 0 0 ≤ number }
     ensures { IsLastFrom firsts.now number result }
 {
-    if is_from(firsts, number, near) {
-        return near;
-    }
-    let next = near.saturating_add(1);
-    if is_from(firsts, number, next) {
-        return next;
-    }
     let mut low = 0;
     let mut high = firsts.len();
     while low + 1 < high {
@@ -95,13 +83,24 @@ pub(crate) fn place_of_number(firsts: &[u32], number: u32, near: usize) -> usize
     low
 }
 
+/// The place whose first number is the last that is not above a number, found sooner where it is
+/// one of the few from a place on.
+pub(crate) fn place_of_number(firsts: &[u32], number: u32, near: usize) -> usize
+    requires some { 0 < length firsts.now }
+    requires first { slice_index_or firsts.now 0 0 ≤ number }
+    ensures { IsLastFrom firsts.now number result }
+{
+    let end = near.saturating_add(FEW).min(firsts.len());
+    for place in near..end {
+        if is_from(firsts, number, place) {
+            return place;
+        }
+    }
+    searched(firsts, number)
+}
+
 /// The number of a cell whose corner is that of a place.
-pub(crate) fn number_at(
-    places: &[Place],
-    firsts: &[u32],
-    cell: &Cell,
-    place: usize,
-) -> Option<u32>
+pub(crate) fn number_at(places: &[Place], firsts: &[u32], cell: &Cell, place: usize) -> Option<u32>
     requires are { ArePlaces places.now }
     requires firsts { firsts.now ≡ firsts_from 0 places.now }
     requires few { length (cells_of_places places.now) < 2 ^ 32 }

@@ -1,4 +1,4 @@
-use Rattle.std.proofs.Common.{◌≡◌, ◌∙◌, sym, ap, []}
+use Rattle.std.proofs.Common.{◌∙◌, ap, []}
 use Rattle.std.proofs.lemmas.List.{get_or_default}
 use Rattle.cell_points.specs.declared.place.Place.{Place}
 use Rattle.cell_points.proofs.Without.{mask_there, mask_none}

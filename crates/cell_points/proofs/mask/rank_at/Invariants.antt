@@ -1,4 +1,4 @@
-use Rattle.std.proofs.Common.{◌≡◌, ◌≤◌, ◌+◌, ◌%◌, ◌^◌}
+use Rattle.std.proofs.Common.{◌≡◌, ◌+◌, ◌%◌, ◌^◌}
 use Rattle.std.specs.Int.RustNames.{count_ones}
 use Rattle.cell_points.proofs.mask.rank_at.Given as goal
 

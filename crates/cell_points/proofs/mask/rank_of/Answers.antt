@@ -1,5 +1,4 @@
 use Rattle.std.proofs.Common.{length, arith}
-use Rattle.elem_cubes.specs.Range.{most_factors}
 use Rattle.cell_points.proofs.Axes.{axes_few}
 use Rattle.cell_points.proofs.mask.rank_of.Goals as goal
 

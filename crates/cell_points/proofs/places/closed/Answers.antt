@@ -1,5 +1,5 @@
-use Rattle.std.proofs.Common.{◌≡◌, ◌≤◌, ◌<◌, ◌∙◌, ap, sym, subst, arith, map, length}
-use Rattle.cell_points.specs.Places.{ArePlaces, CanRise, lowered, raised_all, cells_of_places}
+use Rattle.std.proofs.Common.{◌≡◌, ◌∙◌, ap, sym, subst, arith, map}
+use Rattle.cell_points.specs.Places.{ArePlaces, CanRise, lowered, raised_all}
 use Rattle.cell_points.proofs.Closing.{lowered_are, raised_are, reaches}
 use Rattle.cell_points.proofs.Closed.{IsClosedTo, rising, closed_more, closed_all}
 use Rattle.std.specs.Prelude.{List, ℕ}

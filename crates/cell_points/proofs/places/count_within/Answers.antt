@@ -1,4 +1,4 @@
-use Rattle.std.proofs.Common.{◌+◌, arith, ap}
+use Rattle.std.proofs.Common.{◌+◌, arith}
 use Rattle.cell_points.proofs.Counting.{length_step, length-front}
 use Rattle.cell_points.proofs.places.count_within.Goals as goal
 

@@ -1,5 +1,4 @@
-use Rattle.std.proofs.Common.{◌+◌, ◌∙◌, ◌++◌, ◌∷◌, [], arith, ap, sym}
-use Rattle.cell_points.specs.Places.{firsts_from}
+use Rattle.std.proofs.Common.{◌+◌, arith, sym}
 use Rattle.cell_points.proofs.Counting.{length_step, length-front, firsts_step}
 use Rattle.cell_points.proofs.places.firsts_of.Goals as goal
 

@@ -1,4 +1,4 @@
-use Rattle.std.proofs.Common.{◌≡◌, ◌≤◌, ◌<◌, ◌+◌, ◌-◌, ◌∙◌, ◌++◌, ◌∷◌, [], ap, sym, subst, arith, length, take, List, refl}
+use Rattle.std.proofs.Common.{◌≡◌, ◌∙◌, ap, sym, subst, arith, take, List}
 use Rattle.std.proofs.lemmas.List.{take_all}
 use Rattle.elem_cubes.specs.Corners.{corner_cmp}
 use Rattle.elem_cubes.specs.Cells.{Factor}
@@ -18,15 +18,15 @@ loop-i-init c =
 
 pub loop-i-preserved : goal.loop-i-preserved
 loop-i-preserved c = elim c.match-cmp.branch [
-  in-Equal w ↦
-    let f = step_joined c.args.cells.now c.loop-i.i c.index-cells-i.result c.loop-i.places.items c.loop-i.group c.match-cmp.group c.loop-i-test.true c.index-cells-i.is w.joined-group.ensures.few c.loop-i.invariant.grouped
-    (ap (corner_cmp c.loop-i.group.corner) (sym c.lower.ensures) ∙ sym c.cmp.ensures ∙ w.in-Equal.is) (w.group-is ∙ w.joined-group.ensures.place) in
-    record { grouped = rw w.places-is f.0; last = f.1; some = omega arith }
+  | in-Equal w ↦
+      let f = step_joined c.args.cells.now c.loop-i.i c.index-cells-i.result c.loop-i.places.items c.loop-i.group c.match-cmp.group c.loop-i-test.true c.index-cells-i.is w.joined-group.ensures.few c.loop-i.invariant.grouped
+      (ap (corner_cmp c.loop-i.group.corner) (sym c.lower.ensures) ∙ sym c.cmp.ensures ∙ w.in-Equal.is) (w.group-is ∙ w.joined-group.ensures.place) in
+      record { grouped = rw w.places-is f.0; last = f.1; some = omega arith }
   | in_default+in_ok-push-in_default w ↦
-    let f = step_opened c.args.cells.now c.loop-i.i c.index-cells-i.result c.loop-i.places.items c.loop-i.group c.match-cmp.group c.loop-i-test.true c.index-cells-i.is w.place_of-group-in_default.ensures.few c.loop-i.invariant.grouped
-    c.requires.sorted c.loop-i.invariant.some c.loop-i.invariant.last
-    (λ e. w.in_default.not-Equal (c.cmp.ensures ∙ ap (corner_cmp c.loop-i.group.corner) c.lower.ensures ∙ e)) (w.group-is ∙ w.place_of-group-in_default.ensures.place) in
-    record { grouped = rw (w.places-is, w.in_ok-push-in_default.ensures.items) f.0; last = f.1; some = omega arith }
+      let f = step_opened c.args.cells.now c.loop-i.i c.index-cells-i.result c.loop-i.places.items c.loop-i.group c.match-cmp.group c.loop-i-test.true c.index-cells-i.is w.place_of-group-in_default.ensures.few c.loop-i.invariant.grouped
+      c.requires.sorted c.loop-i.invariant.some c.loop-i.invariant.last
+      (λ e. w.in_default.not-Equal (c.cmp.ensures ∙ ap (corner_cmp c.loop-i.group.corner) c.lower.ensures ∙ e)) (w.group-is ∙ w.place_of-group-in_default.ensures.place) in
+      record { grouped = rw (w.places-is, w.in_ok-push-in_default.ensures.items) f.0; last = f.1; some = omega arith }
 ]
 
 pub returns-clause-cells : goal.returns-clause-cells

@@ -1,4 +1,4 @@
-use Rattle.std.proofs.Common.{◌≡◌, take, ◌-◌, ◌≤◌, length}
+use Rattle.std.proofs.Common.{◌≡◌, take, ◌-◌, ◌≤◌}
 use Rattle.elem_cubes.specs.Cells.{lower_of}
 use Rattle.elem_cubes.specs.Laws.{cell_at}
 use Rattle.cell_points.proofs.Grouping.{IsGrouped}

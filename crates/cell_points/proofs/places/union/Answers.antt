@@ -1,5 +1,5 @@
-use Rattle.std.proofs.Common.{◌≡◌, ◌++◌, ◌≤◌, ◌⊎◌, length, inl, inr, arith, sym}
-use Rattle.cell_points.proofs.Unions.{Merged, at_less, at_equal, at_greater, at_end}
+use Rattle.std.proofs.Common.{arith, sym}
+use Rattle.cell_points.proofs.Unions.{at_less, at_equal, at_greater}
 use Rattle.cell_points.proofs.places.union.Goals as goal
 
 pub merge-preserved-in-Less : goal.merge-preserved-in-Less

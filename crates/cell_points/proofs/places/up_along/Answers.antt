@@ -1,4 +1,4 @@
-use Rattle.std.proofs.Common.{◌≡◌, ◌^◌, arith, ap, sym, ◌∙◌}
+use Rattle.std.proofs.Common.{◌^◌, arith, ap, ◌∙◌}
 use Rattle.elem_cubes.specs.Cells.{upper_of, cell_of}
 use Rattle.cell_points.proofs.Edges.{edge_made, made_some, same_some, edge_upper}
 use Rattle.cell_points.proofs.places.up_along.Goals as goal

@@ -1,7 +1,7 @@
-use Rattle.std.proofs.Common.{◌≡◌, ◌<◌, ◌+◌, ◌%◌, ◌^◌, ◌≤◌, ◌∙◌, refl, sym, ap, arith, length, get_or, true, false}
+use Rattle.std.proofs.Common.{◌+◌, ◌≤◌, ◌∙◌, refl, ap, arith, length, get_or, true, false}
 use Rattle.std.proofs.lemmas.Bool.{false≢true}
 use Rattle.elem_cubes.specs.Laws.{cell_at}
-use Rattle.cell_points.specs.Places.{rank_of, place_at, cells_of_places, firsts_from}
+use Rattle.cell_points.specs.Places.{cells_of_places}
 use Rattle.cell_points.proofs.Counting.{length-firsts}
 use Rattle.cell_points.proofs.Searching.{not_there, number_few, number_cell, bit_there, count_there}
 use Rattle.cell_points.proofs.Sorting.{found, placed}

@@ -1,4 +1,4 @@
-use Rattle.std.proofs.Common.{◌≡◌, ◌<◌, ◌≤◌, ◌+◌, ◌-◌, ◌/◌, ◌∙◌, sym, ap, arith, length}
+use Rattle.std.proofs.Common.{◌<◌, ◌+◌, ◌-◌, ◌/◌, arith, length}
 use Rattle.std.specs.declared.cmp.Ordering.TheVariants.{Less, Greater}
 use Rattle.cell_points.proofs.Searching.{still_below, still_above, nowhere, at_cmp, found_at}
 use Rattle.cell_points.proofs.search.place_of_corner.Goals as goal

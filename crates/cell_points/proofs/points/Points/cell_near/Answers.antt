@@ -1,4 +1,4 @@
-use Rattle.std.proofs.Common.{◌≡◌, ◌<◌, ◌+◌, ◌-◌, ◌≤◌, ◌∙◌, sym, ap, subst, arith, length, get_or, List}
+use Rattle.std.proofs.Common.{◌<◌, ◌∙◌, ap, subst, arith, length, get_or, List}
 use Rattle.std.specs.Prelude.{ℕ}
 use Rattle.elem_cubes.specs.Cells.{checked_of}
 use Rattle.elem_cubes.specs.Laws.{cell_at}

@@ -1,4 +1,4 @@
-use Rattle.std.proofs.Common.{◌≡◌, ◌≤◌, ◌<◌, ◌^◌, ◌∙◌, sym, ap, subst, arith, length}
+use Rattle.std.proofs.Common.{◌≡◌, ◌∙◌, sym, ap, subst, arith, length}
 use Rattle.cube_sets.specs.Closures.{cells_of}
 use Rattle.cell_points.specs.Sorted.{IsSortedCells}
 use Rattle.cell_points.specs.Places.{cells_of_places}

@@ -1,9 +1,7 @@
-use Rattle.std.proofs.Common.{◌≡◌, ◌∙◌, sym, ap, subst, List, false, ℕ}
-use Rattle.std.specs.Prelude.{ℤ}
+use Rattle.std.proofs.Common.{sym, subst, List}
 use Rattle.std.specs.List.{Contains}
 use Rattle.std.proofs.lemmas.Bool.{false≢true}
 use Rattle.elem_cubes.specs.Cells.{Factor}
-use Rattle.cell_points.specs.Places.{holds_at}
 use Rattle.cell_points.proofs.Searching.{absent_cell}
 use Rattle.cell_points.proofs.points.Points.number.Goals as goal
 

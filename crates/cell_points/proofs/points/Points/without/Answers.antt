@@ -1,9 +1,9 @@
-use Rattle.std.proofs.Common.{◌≡◌, ◌≤◌, ◌∙◌, sym, ap, subst, arith, length, map, List, IfOk}
+use Rattle.std.proofs.Common.{◌≡◌, ◌∙◌, sym, ap, subst, arith, length, map, List, IfOk}
 use Rattle.elem_cubes.specs.Cells.{Factor}
 use Rattle.cube_sets.proofs.Steps.{something}
 use Rattle.cell_points.specs.Sorted.{IsSortedCells, without}
 use Rattle.cell_points.specs.Places.{ArePlaces, cells_of_places, cut}
-use Rattle.cell_points.proofs.Without.{cut_are, cut_cells, fewer, without_sorted}
+use Rattle.cell_points.proofs.Without.{cut_are, cut_cells, fewer, without_none, without_sorted}
 use Rattle.cell_points.proofs.points.Points.without.Goals as goal
 
 pub count_within-requires : goal.count_within-requires
@@ -41,3 +41,6 @@ returns c =
     let d : cells_of_places c.in_ok-places.places.items ≡ without c.args.self c.args.others.now =
     ap cells_of_places e ∙ cut_cells c.others.inside.places.items c.others.invariant.are c.self.inside.places.items c.self.invariant.are ∙ (λ i. without (c.self.view_is i) (c.others.view_is i)) in
     subst (λ (cells : List (List Factor)). IfOk c.of_places.result (λ points. points ≡ cells)) d c.of_places.ensures
+
+pub returns-then-others-eq0 : goal.returns-then-others-eq0
+returns-then-others-eq0 c = without_none c.args.self c.args.others.now c.others.inside.count (c.others.invariant.counted ∙ ap length c.others.view_is) c.if-others-eq0.true
