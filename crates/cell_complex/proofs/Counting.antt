@@ -154,14 +154,6 @@ module _ (x a faces subset : List (List Factor)) (in_faces : faces ≡ cells_of 
       apart_from true false e = refl
       apart_from false v e = absurd (true≢false (sym e))
 
--- a list without the cells of no list
-pub without_none : (cells others : List (List Factor)) → others ≡ [] → cells ≡ without cells others
-without_none cells others none = sym (ap (without cells) none ∙ all cells)
-  where
-    all : (qs : List (List Factor)) → without qs [] ≡ qs
-    all [] = refl
-    all (q ∷ qs) = ap (λ rest. q ∷ rest) (all qs)
-
 -- ---- the members of a set are sorted cells, and the relative cells a listing
 
 all_right : {A : Type 0} (p r : A → Bool) (xs : List A) → list_all (λ x. p x && r x) xs ≡ true → list_all r xs ≡ true

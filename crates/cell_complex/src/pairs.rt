@@ -4,13 +4,12 @@ ghost use Rattle.cube_sets.specs.Closures.{cells_of};
 ghost use Rattle.cell_complex.specs.RelativeComplex.{is_relative};
 ghost use Rattle.cell_complex.specs.Numbering.{IsListing, IsOfPair};
 ghost use Rattle.cell_complex.specs.CellCount.{cell_count};
-ghost use Rattle.cell_complex.specs.Sorted.{without};
 
 use crate::fault::CellsFault;
 use crate::numbered::Numbered;
 use cell_points::{Points, PointsFault};
 use cube_sets::CubeSet;
-use std::alloc::{AllocError, Global};
+use std::alloc::Global;
 
 /// The most cells that the two sets of a pair have together.
 pub const CELLS: usize = 4_194_304;
@@ -46,21 +45,11 @@ pub fn relative_within(
     let subset = faces_within(alloc, a, limit)?;
     let faces = faces_within(alloc, x, limit)?;
     let room = limit - subset.len() as usize;
-    let cells = cells_without(alloc, faces, &subset)?;
+    let cells = faces.without(alloc, &subset)?;
     if room < cells.len() as usize {
         return Err(CellsFault::TooManyCells);
     }
     Ok(Numbered::of_points(cells))
-}
-
-// The cells that are not among the others; where there are no others, as they are.
-fn cells_without(alloc: Global, cells: Points, others: &Points) -> Result<Points, AllocError>
-    ensures { IfOk result (λ kept. kept ≡ without cells others.now) }
-{
-    if others.is_empty() {
-        return Ok(cells);
-    }
-    cells.without(alloc, others)
 }
 
 // The faces of the members of a set, or `TooManyCells` where they alone are more than so many.
