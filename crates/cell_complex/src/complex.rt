@@ -83,10 +83,11 @@ fn end_of(cell: &Cell, facet: &Cell) -> usize
     2 * axis + usize::from(cell.lower() == facet.lower())
 }
 
-// Makes `lower` the terms of the boundary of a cell, of which only those at cells of the list count:
-// first the facets at the cell's own lower corner, axes ascending, then those further up, axes
-// descending, so that numbers ascend. What both lists hold before is not kept. For each end of an
-// axis `near` tells where the facet was found there last: cells in order have such facets in order.
+// Makes `lower` the terms of the boundary of a cell, of which only those at cells of the list
+// count: first the facets at the cell's own lower corner, axes ascending, then those further up,
+// axes descending, so that numbers ascend. What both lists hold before is not kept. For each end of
+// an axis `near` tells where the facet was found there last: cells in order have such facets in
+// order.
 fn add_facets<const P: u16>(
     field: Field<P>,
     cells: &Numbered,

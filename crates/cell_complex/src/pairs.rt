@@ -45,7 +45,7 @@ pub fn relative_within(
     let subset = faces_within(alloc, a, limit)?;
     let faces = faces_within(alloc, x, limit)?;
     let room = limit - subset.len() as usize;
-    let cells = faces.without(&subset)?;
+    let cells = faces.without(alloc, &subset)?;
     if room < cells.len() as usize {
         return Err(CellsFault::TooManyCells);
     }
