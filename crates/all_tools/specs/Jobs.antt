@@ -82,6 +82,7 @@ map_of r = record {
   cycles = r.options.cycles;
   matrix = r.options.matrix;
   stats = r.options.stats;
+  index = r.options.index;
 }
 
 -- squares with so many holes, which the form asks for

@@ -105,6 +105,7 @@ pub fn map_job(alloc: Global, command: &Command) -> Result<MapJob, Fault>
         cycles: options.cycles(),
         matrix: options.matrix(),
         stats: options.stats(),
+        index: options.index(),
     })
 }
 

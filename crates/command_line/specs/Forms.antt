@@ -8,7 +8,7 @@ use Rattle.std.specs.declared.string.String.{String}
 use Rattle.command_line.specs.declared.form.ToolName.{ToolName}
 use Rattle.command_line.specs.declared.form.ToolName.TheVariants as tools
 use Rattle.command_line.specs.declared.choice.Choice.{Choice}
-use Rattle.command_line.specs.declared.choice.Choice.TheVariants.{Modulus, Cycles, Stats, Map, Matrix, SetAlone}
+use Rattle.command_line.specs.declared.choice.Choice.TheVariants.{Modulus, Cycles, Stats, Map, Matrix, Index, SetAlone}
 use Rattle.command_line.specs.declared.choice.Setting.{Setting}
 use Rattle.command_line.specs.Operands.{holes_named}
 pub use Rattle.command_line.specs.Operands.{named}
@@ -33,7 +33,7 @@ of_homology = Modulus ∷ Cycles ∷ []
 
 -- the options of the tool on pairs of sets and on maps between such pairs
 abbrev pub of_pairs : List Choice
-of_pairs = Modulus ∷ Cycles ∷ Stats ∷ Map ∷ Matrix ∷ []
+of_pairs = Modulus ∷ Cycles ∷ Stats ∷ Map ∷ Matrix ∷ Index ∷ []
 
 -- the options of the tool on the values of maps
 abbrev pub of_maps : List Choice
@@ -62,6 +62,7 @@ option_name Cycles = codes "--cycles"
 option_name Stats = codes "--stats"
 option_name Map = codes "--map"
 option_name Matrix = codes "--matrix"
+option_name Index = codes "--index"
 option_name SetAlone = codes "--set"
 
 abbrev pub takes_value : Choice → Bool
@@ -70,6 +71,7 @@ takes_value Cycles = false
 takes_value Stats = false
 takes_value Map = true
 takes_value Matrix = false
+takes_value Index = false
 takes_value SetAlone = false
 
 -- whether the option stands with no other
@@ -135,7 +137,8 @@ abbrev pub valued : Option Choice → List ℕ → Option WordRead
 valued None value = None
 valued (Some choice) value =
     if takes_value choice && not (is_empty value)
-    then Some (record { said = Set (record { choice = choice; value = Some value }); next = Anything })
+    then Some (record
+    { said = Set (record { choice = choice; value = Some value }); next = Anything })
     else None
 
 abbrev pub option_read : Row → List ℕ → Option WordRead
@@ -152,7 +155,8 @@ word_read form Anything word =
     else option_read form word
 word_read form (ValueOf choice) word =
     if is_plain word
-    then Some (record { said = Set (record { choice = choice; value = Some word }); next = Anything })
+    then Some (record
+    { said = Set (record { choice = choice; value = Some word }); next = Anything })
     else None
 word_read form OperandsAlone word =
     if is_empty word then None else Some (record { said = Operand word; next = OperandsAlone })
@@ -203,6 +207,7 @@ same_choice Cycles Cycles = true
 same_choice Stats Stats = true
 same_choice Map Map = true
 same_choice Matrix Matrix = true
+same_choice Index Index = true
 same_choice SetAlone SetAlone = true
 same_choice choice other = false
 
@@ -217,14 +222,18 @@ abbrev pub are_once : List Setting → Bool
 are_once [] = true
 are_once (s ∷ ss) = not (is_set s.choice ss) && are_once ss
 
--- no other option stands beside one that stands alone, and matrices are those of a map
+-- no other option stands beside one that stands alone, and matrices and index matrices are those of
+-- a map
 abbrev pub has_alone : List Setting → Bool
 has_alone settings = list_any (λ s. stands_alone s.choice) settings
+
+abbrev pub asks_of_map : List Setting → Bool
+asks_of_map settings = is_set Matrix settings || is_set Index settings
 
 abbrev pub agree : List Setting → Bool
 agree settings =
     (nat_le (length settings) 1 || not (has_alone settings))
-    && (is_set Map settings || not (is_set Matrix settings))
+    && (is_set Map settings || not (asks_of_map settings))
 
 -- the form that the options choose: with a map it is that of maps, whose operands are the domain,
 -- its subset, the range and its subset

@@ -5,7 +5,7 @@ use Rattle.field_mod.specs.Moduli.{moduli}
 use Rattle.faults.specs.declared.fault.Fault.{Fault}
 use Rattle.faults.specs.declared.fault.Fault.TheVariants.{NoTool, NotAForm, OutOfMemory}
 use Rattle.command_line.specs.declared.form.ToolName.{ToolName}
-use Rattle.command_line.specs.declared.choice.Choice.TheVariants.{Modulus, Cycles, Stats, Map, Matrix, SetAlone}
+use Rattle.command_line.specs.declared.choice.Choice.TheVariants.{Modulus, Cycles, Stats, Map, Matrix, Index, SetAlone}
 use Rattle.command_line.specs.declared.choice.Setting.{Setting}
 use Rattle.command_line.specs.Forms.{Anything, Row, Spoken, named, form_named, words_read, is_set, setting_of, form_with, fitting}
 
@@ -29,13 +29,15 @@ abbrev pub map_in : List Setting → Option (List ℕ)
 map_in settings = option_and_then (λ s. s.value) (setting_of settings Map)
 
 -- the modulus, whether the cycles are printed, whether the counts are, the map, whether its
--- matrices are printed, and whether a set is, and nothing of its homology
+-- matrices are printed, whether its index matrices are, and whether a set is, and nothing of its
+-- homology
 pub record Chosen : Type 0 where
   pub modulus : ℕ
   pub cycles : Bool
   pub stats : Bool
   pub map : Option (List ℕ)
   pub matrix : Bool
+  pub index : Bool
   pub set_alone : Bool
 
 -- where matrices are printed, so are the cycles
@@ -46,6 +48,7 @@ with_modulus settings modulus = record {
   stats = is_set Stats settings;
   map = map_in settings;
   matrix = is_set Matrix settings;
+  index = is_set Index settings;
   set_alone = is_set SetAlone settings;
 }
 

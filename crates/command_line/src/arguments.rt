@@ -1,6 +1,6 @@
 //! What all words after a tool's name say.
 ghost use Rattle.std.specs.Prelude.{◌≡◌, ◌≤◌, length, true, OnOk};
-ghost use Rattle.command_line.specs.Forms.{Operand, Set, nothing_spoken, after, is_set, are_once, has_alone, agree, fits};
+ghost use Rattle.command_line.specs.Forms.{Operand, Set, nothing_spoken, after, is_set, are_once, has_alone, asks_of_map, agree, fits};
 
 use crate::choice::{Choice, Setting};
 use crate::form::Form;
@@ -92,18 +92,25 @@ fn are_once(settings: &[Setting]) -> bool
     true
 }
 
-// Whether no other option stands beside one that stands alone, and a map beside its matrices.
+// Whether no other option stands beside one that stands alone, and a map beside what is asked of it.
 fn agree(settings: &[Setting]) -> bool
     ensures { result ≡ agree settings.now }
 {
     (settings.len() <= 1 || !has_alone(settings))
-        && (is_set(Choice::Map, settings) || !is_set(Choice::Matrix, settings))
+        && (is_set(Choice::Map, settings) || !asks_of_map(settings))
 }
 
 fn has_alone(settings: &[Setting]) -> bool
     ensures { result ≡ has_alone settings.now }
 {
     settings.iter().any(|setting| setting.choice.stands_alone())
+}
+
+// Whether something is asked that maps alone have.
+fn asks_of_map(settings: &[Setting]) -> bool
+    ensures { result ≡ asks_of_map settings.now }
+{
+    is_set(Choice::Matrix, settings) || is_set(Choice::Index, settings)
 }
 
 /// Whether the option is set.

@@ -17,6 +17,8 @@ pub enum Choice {
     Map,
     /// That the matrices of a map are printed, and the cycles. It stands beside `Map` alone.
     Matrix,
+    /// That the index matrices of a map are printed too. It stands beside `Map` alone.
+    Index,
     /// That a set is printed, and nothing of its homology. It stands with no other option.
     SetAlone,
 }
@@ -39,6 +41,7 @@ impl Choice {
             Choice::Stats => "--stats",
             Choice::Map => "--map",
             Choice::Matrix => "--matrix",
+            Choice::Index => "--index",
             Choice::SetAlone => "--set",
         }
     }
@@ -53,6 +56,7 @@ impl Choice {
             Choice::Stats => "stats",
             Choice::Map => "map",
             Choice::Matrix => "matrix",
+            Choice::Index => "index",
             Choice::SetAlone => "set",
         }
     }
@@ -67,6 +71,7 @@ impl Choice {
             Choice::Stats => false,
             Choice::Map => true,
             Choice::Matrix => false,
+            Choice::Index => false,
             Choice::SetAlone => false,
         }
     }
@@ -77,8 +82,12 @@ impl Choice {
     {
         match self {
             Choice::SetAlone => true,
-            Choice::Modulus | Choice::Cycles | Choice::Stats | Choice::Map | Choice::Matrix =>
-                false,
+            Choice::Modulus
+            | Choice::Cycles
+            | Choice::Stats
+            | Choice::Map
+            | Choice::Matrix
+            | Choice::Index => false,
         }
     }
 
@@ -92,6 +101,7 @@ impl Choice {
             (Choice::Stats, Choice::Stats) => true,
             (Choice::Map, Choice::Map) => true,
             (Choice::Matrix, Choice::Matrix) => true,
+            (Choice::Index, Choice::Index) => true,
             (Choice::SetAlone, Choice::SetAlone) => true,
             _ => false,
         }

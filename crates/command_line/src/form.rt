@@ -47,12 +47,13 @@ impl Model for Form {
 const OF_HOMOLOGY: [Choice; 2] = [Choice::Modulus, Choice::Cycles];
 
 // The options of the tool on pairs of sets and on maps between such pairs.
-const OF_PAIRS: [Choice; 5] = [
+const OF_PAIRS: [Choice; 6] = [
     Choice::Modulus,
     Choice::Cycles,
     Choice::Stats,
     Choice::Map,
     Choice::Matrix,
+    Choice::Index,
 ];
 
 // The options of the tool on the values of maps.

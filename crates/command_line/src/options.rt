@@ -19,6 +19,7 @@ pub struct Options {
     stats: bool,
     map: Option<Name>,
     matrix: bool,
+    index: bool,
     set_alone: bool,
 }
 
@@ -34,6 +35,7 @@ impl Model for Options {
       stats = o.stats;
       map = o.map;
       matrix = o.matrix;
+      index = o.index;
       set_alone = o.set_alone;
     } };
 
@@ -49,6 +51,7 @@ impl Options {
         let matrix = is_set(Choice::Matrix, &settings);
         let cycles = is_set(Choice::Cycles, &settings) || matrix;
         let stats = is_set(Choice::Stats, &settings);
+        let index = is_set(Choice::Index, &settings);
         let set_alone = is_set(Choice::SetAlone, &settings);
         let map = map_in(settings);
         Some(Options {
@@ -57,6 +60,7 @@ impl Options {
             stats,
             map,
             matrix,
+            index,
             set_alone,
         })
     }
@@ -95,6 +99,13 @@ impl Options {
         ensures { result ≡ self.now.matrix }
     {
         self.matrix
+    }
+
+    /// Whether the index matrices of a map are printed.
+    pub fn index(&self) -> bool
+        ensures { result ≡ self.now.index }
+    {
+        self.index
     }
 
     /// Whether a set is printed, and nothing of its homology.

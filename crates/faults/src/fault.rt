@@ -2,6 +2,7 @@
 ghost use Rattle.std.specs.Prelude.{◌≡◌, ◌++◌, IfOk, OnOk};
 ghost use Rattle.faults.specs.FaultText.{fault_text};
 
+use crate::index_lines::{not_included_text, not_invertible_text};
 use crate::map_lines::{empty_value_text, leaves_text, not_acyclic_text, undefined_text};
 use crate::{Cause, CellChain, LimitName, Name};
 use elem_cubes::Cell;
@@ -86,6 +87,31 @@ pub enum Fault {
         cycle: CellChain,
         cocycle: CellChain,
     },
+    /// This full cube of a map's domain is not in its range.
+    #[error("index: a cube is not in the range")]
+    NotInRange {
+        cube: Cell,
+    },
+    /// This full cube of the subset of a map's domain is not in that of its range.
+    #[error("index: a cube is not in the range's subset")]
+    NotInSubset {
+        cube: Cell,
+    },
+    /// The inclusion of a map's domain in its range is not invertible in this degree: it sends this
+    /// cycle of the domain's pair, which is not null, to a null chain. It is one of many.
+    #[error("index: a cycle is killed in degree {degree}")]
+    Killed {
+        degree: u8,
+        chain: CellChain,
+    },
+    /// The inclusion of a map's domain in its range is not invertible in this degree: this cocycle
+    /// of the range's pair is 0 on all cycles of the domain's, and not on all of its own. It is one
+    /// of many.
+    #[error("index: a cocycle is missed in degree {degree}")]
+    Missed {
+        degree: u8,
+        chain: CellChain,
+    },
     /// A write to standard output failed.
     #[error("cannot write standard output")]
     CannotWriteOut,
@@ -140,6 +166,16 @@ pub fn fault_text(alloc: Global, fault: &Fault) -> Result<Vec<u8>, NoMemory>
             cycle,
             cocycle,
         } => not_acyclic_text(alloc, cell, *degree, cycle, cocycle),
+        Fault::NotInRange { cube } => not_included_text(alloc, cube, b" is not in the range\n"),
+        Fault::NotInSubset { cube } => {
+            not_included_text(alloc, cube, b" is not in the range's subset\n")
+        }
+        Fault::Killed { degree, chain } => {
+            not_invertible_text(alloc, *degree, b": killed: ", chain)
+        }
+        Fault::Missed { degree, chain } => {
+            not_invertible_text(alloc, *degree, b": missed: ", chain)
+        }
         Fault::CannotWriteOut => Vec::from_slice(alloc, b"error: cannot write standard output\n"),
         Fault::OutOfMemory => Vec::from_slice(alloc, b"error: out of memory\n"),
     }

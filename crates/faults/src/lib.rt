@@ -6,6 +6,7 @@ mod cause;
 mod chain;
 mod fault;
 mod generator;
+mod index_lines;
 mod limit_name;
 mod map_lines;
 mod name;

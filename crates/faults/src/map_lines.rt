@@ -13,7 +13,7 @@ use elem_cubes::Cell;
 use std::alloc::{AllocError as NoMemory, Global};
 
 // Adds a full cube by its lower corner.
-fn put_cube(to: &mut Vec<u8>, cube: &Cell) -> Result<(), NoMemory>
+pub(crate) fn put_cube(to: &mut Vec<u8>, cube: &Cell) -> Result<(), NoMemory>
     ensures { OnOk result (to.new.items ≡ to.old.items ++ cube_text cube.now) }
 {
     put_corner(to, &cube.lower())

@@ -1,4 +1,5 @@
 pub mod Columns
+pub mod Each
 pub mod Restricting
 pub mod Entering
 pub mod Making

@@ -25,7 +25,8 @@ use Rattle.homology_basis.proofs.Dual.{within}
 use Rattle.leray_conley.specs.Tables.{Table, entry}
 use Rattle.map_checks.specs.Carriers.{Carrying, IsCarrier}
 use Rattle.induced_map.specs.Within.{AreCellsOf}
-use Rattle.induced_map.specs.Images.{IsRestrictedImage, AreRestrictedImages, AreProducts}
+use Rattle.induced_map.specs.Lists.{AreEach}
+use Rattle.induced_map.specs.Images.{IsRestrictedImage, AreProducts}
 use Rattle.induced_map.specs.Matrices.{none, nth, ArePairsOfMap, IsMatrixOf}
 use Rattle.induced_map.proofs.Columns.{column_of_all}
 
@@ -55,13 +56,13 @@ module _ (p : ℕ) (c : Carrying) (is : IsCarrier p c) (one : 1 ≤ p) (dc : Lis
   abbrev cs : List (List (ℕ × ℕ))
   cs = in_degree B.cocycles k
 
-  pub matrix_is : (images : List (List (ℕ × ℕ))) (entries : List ℕ) (m : Table) → AreRestrictedImages p c dc zs rc (length zs) images → AreProducts p cs images (length (in_degree B.cycles k)) entries
+  pub matrix_is : (images : List (List (ℕ × ℕ))) (entries : List ℕ) (m : Table) → AreEach (IsRestrictedImage p c dc rc) zs (length zs) images → AreProducts p cs images (length (in_degree B.cycles k)) entries
       → m.rows ≡ length (in_degree B.cycles k) → m.columns ≡ length zs → m.entries ≡ entries → IsMatrixOf p c dc A rc B k m
   matrix_is images entries m im pr rows columns same x a y b pairs = record {
     rows = rows;
     columns = columns;
     induced = λ e me j l.
-        let i : IsRestrictedImage p c dc (get_or zs j []) rc (get_or images j []) = im.each j l in
+        let i : IsRestrictedImage p c dc rc (get_or zs j []) (get_or images j []) = im.each j l in
         column_of_all p c.map c.domain c.range x a y b dc rc A B k j (λ r. entry m r j) i.map e one is.acyclic pairs.domain_whole pairs.range_whole pairs.carried pairs.domain pairs.range ba bb i.carried me l
         (λ r q. same_trans (exact p (at r j ∙ pr.products r j q (omega (arith, im.count)))) (product_is p (length rc) (get_or cs r []) (get_or images j []) (λ g. image (cells_of c.domain) i.map (by_cell dc (coefficient (get_or zs j []))) (cell_at rc g)) i.normal i.within i.value));
   }

@@ -1,8 +1,7 @@
--- Restricted images: of one chain, and of one more.
-use Rattle.std.proofs.Common.{◌≡◌, ℕ, ◌+◌, ◌*◌, ◌<◌, ◌≤◌, sym, ap, ◌∙◌, subst, arith, ⊎_elim, List, [], ◌∷◌, ◌++◌, length, get_or}
+-- The restricted image of one chain.
+use Rattle.std.proofs.Common.{◌≡◌, ℕ, ◌*◌, ◌<◌, ◌≤◌, sym, ap, ◌∙◌, subst, arith, ⊎_elim, List, [], length, get_or}
 use Rattle.std.specs.Prelude.{◌^◌}
 use Rattle.std.proofs.lemmas.Bool.{cases_lt, le-ltb}
-use Rattle.std.proofs.lemmas.List.{get_or_append_left, get_or_push, length_push}
 use Rattle.field_mod.proofs.Sums.{total_same}
 use Rattle.field_mod.proofs.Modular.{same_refl, same_trans, same-mul}
 use Rattle.elem_cubes.specs.Cells.{Factor}
@@ -23,7 +22,7 @@ use Rattle.chain_selector.specs.Renumbered.{IsRenumbered}
 use Rattle.chain_selector.proofs.OtherNumbers.{by_cell-at}
 use Rattle.chain_selector.proofs.OneMap.{sums_are_of_one_map}
 use Rattle.induced_map.specs.Within.{AreCellsOf, AreWithin}
-use Rattle.induced_map.specs.Images.{IsRestrictedImage, AreRestrictedImages}
+use Rattle.induced_map.specs.Images.{IsRestrictedImage}
 
 -- ---- one chain
 
@@ -37,7 +36,7 @@ module _ (p : ℕ) (s : Selection) (sel : IsSelection p s) where
   -- the chain cs by numbers of dc, the same by those of the domain, its image, and the restriction
   -- of that to the cells rc
   pub restricted : (dc rc : List (List Factor)) (cs cycle im ts : List (ℕ × ℕ)) → IsOfOneMap p s → AreKept s cycle → AreCellsOf s.carrying.range rc
-      → IsRenumbered p dc ds cs cycle → IsImageOf p s cycle im → IsRenumbered p rs rc im ts → IsRestrictedImage p s.carrying dc cs rc ts
+      → IsRenumbered p dc ds cs cycle → IsImageOf p s cycle im → IsRenumbered p rs rc im ts → IsRestrictedImage p s.carrying dc rc cs ts
   restricted dc rc cs cycle im ts m kept inside r i t = record {
     map = m.map;
     carried = m.carried;
@@ -58,10 +57,10 @@ module _ (p : ℕ) (s : Selection) (sel : IsSelection p s) where
 
   -- the same where the first two steps were taken by what was kept before, and the chains are by numbers of lists that are those
   pub restricted_by : (t : Selection) (dc rc from to : List (List Factor)) (cs cycle im ts : List (ℕ × ℕ)) → Extends t s → IsOfOneMap p s → AreKept s cycle → AreCellsOf t.carrying.range rc → from ≡ domain_cells t → to ≡ range_cells s
-      → IsRenumbered p dc from cs cycle → IsImageOf p s cycle im → IsRenumbered p to rc im ts → IsRestrictedImage p t.carrying dc cs rc ts
+      → IsRenumbered p dc from cs cycle → IsImageOf p s cycle im → IsRenumbered p to rc im ts → IsRestrictedImage p t.carrying dc rc cs ts
   restricted_by t dc rc from to cs cycle im ts e m kept inside ef et r i u =
       let back : t.carrying ≡ s.carrying = sym e.carrying in
-      subst (λ (c : Carrying). IsRestrictedImage p c dc cs rc ts) e.carrying
+      subst (λ (c : Carrying). IsRestrictedImage p c dc rc cs ts) e.carrying
       (restricted dc rc cs cycle im ts m kept (subst (λ (c : Carrying). AreCellsOf c.range rc) back inside)
       (subst (λ (cells : List (List Factor)). IsRenumbered p dc cells cs cycle) (ef ∙ ap (λ (c : Carrying). cells_of c.domain) back) r) i
       (subst (λ (cells : List (List Factor)). IsRenumbered p cells rc im ts) et u))
@@ -79,24 +78,3 @@ pub cycle_within : (p k j : ℕ) (A : CyclesOfLog) (cells : List (List Factor)) 
 cycle_within p k j A cells one ba count l g past =
     same_zero p (coefficient (get_or (in_degree A.cycles k) j []) g) (coefficient-lt p 0 (2 ^ 32) (get_or (in_degree A.cycles k) j []) g one (ba.normal k j l))
     (((ba.cycles k).cycles j l).chain.on g (le-ltb g (length A.log.complex.boundaries) (omega arith)))
-
--- ---- one image more
-
-pub restricted_of : (p : ℕ) (c : Carrying) (dc : List (List Factor)) (cs us : List (ℕ × ℕ)) (rc : List (List Factor)) (ts : List (ℕ × ℕ)) → cs ≡ us → IsRestrictedImage p c dc cs rc ts → IsRestrictedImage p c dc us rc ts
-restricted_of p c dc cs us rc ts e = subst (λ (vs : List (ℕ × ℕ)). IsRestrictedImage p c dc vs rc ts) e
-
-pub restricted_none : (p : ℕ) (c : Carrying) (dc : List (List Factor)) (zs : List (List (ℕ × ℕ))) (rc : List (List Factor)) (images : List (List (ℕ × ℕ))) → images ≡ [] → AreRestrictedImages p c dc zs rc 0 images
-restricted_none p c dc zs rc images e = record { count = ap length e; each = λ j l. absurd (omega arith) }
-
-pub restricted_more : (p : ℕ) (c d : Carrying) (dc : List (List Factor)) (zs : List (List (ℕ × ℕ))) (rc : List (List Factor)) (n : ℕ) (images new : List (List (ℕ × ℕ))) (ts : List (ℕ × ℕ))
-    → d ≡ c → AreRestrictedImages p c dc zs rc n images → new ≡ images ++ ts ∷ [] → IsRestrictedImage p d dc (get_or zs n []) rc ts → AreRestrictedImages p c dc zs rc (n + 1) new
-restricted_more p c d dc zs rc n images new ts same so_far e image = record {
-  count = ap length e ∙ length_push images ts ∙ ap (λ v. v + 1) so_far.count;
-  each = λ j l. ⊎_elim
-      (λ lt. subst (λ (us : List (ℕ × ℕ)). IsRestrictedImage p c dc (get_or zs j []) rc us) (sym (ap (λ cs. get_or cs j []) e ∙ get_or_append_left images (ts ∷ []) [] j (omega (arith, so_far.count)))) (so_far.each j lt))
-      (λ ge.
-      let k : j ≡ n = omega arith in
-      subst (λ (i : ℕ). IsRestrictedImage p c dc (get_or zs i []) rc (get_or new j [])) (sym k)
-      (subst (λ (us : List (ℕ × ℕ)). IsRestrictedImage p c dc (get_or zs n []) rc us) (sym (ap (λ cs. get_or cs j []) e ∙ ap (λ i. get_or (images ++ ts ∷ []) i []) k ∙ get_or_push images ts [] n so_far.count)) (subst (λ (x : Carrying). IsRestrictedImage p x dc (get_or zs n []) rc ts) same image)))
-      (cases_lt j n);
-}

@@ -12,8 +12,8 @@ use Rattle.map_checks.specs.Carriers.{Carrying}
 
 -- the chain ts is the image of the chain cs under some carried map, restricted to the cells of the
 -- second list; both are chains of numbers, cs of those of the first list
-pub record IsRestrictedImage (p : ℕ) (c : Carrying) (domain_cells : List (List Factor))
-    (cs : List (ℕ × ℕ)) (range_cells : List (List Factor)) (ts : List (ℕ × ℕ)) : Type 0 where
+pub record IsRestrictedImage (p : ℕ) (c : Carrying) (domain_cells range_cells : List (List Factor))
+    (cs ts : List (ℕ × ℕ)) : Type 0 where
   pub map : List Factor → List Factor → ℕ
   pub carried : IsCarriedMap p c.map c.domain c.range map
   pub normal : IsNormal p ts
@@ -21,14 +21,6 @@ pub record IsRestrictedImage (p : ℕ) (c : Carrying) (domain_cells : List (List
   pub value : (g : ℕ) → g < length range_cells
       → Same p (coefficient ts g) (image (cells_of c.domain) map
       (by_cell domain_cells (coefficient cs)) (cell_at range_cells g))
-
--- the chains are those of the first n of the zs
-pub record AreRestrictedImages (p : ℕ) (c : Carrying) (domain_cells : List (List Factor))
-    (zs : List (List (ℕ × ℕ))) (range_cells : List (List Factor)) (n : ℕ)
-    (images : List (List (ℕ × ℕ))) : Type 0 where
-  pub count : length images ≡ n
-  pub each : (j : ℕ) → j < n → IsRestrictedImage p c domain_cells (slice_index_or zs j [])
-      range_cells (slice_index_or images j [])
 
 -- behind the old numbers stand the products of the cochain with the first n of the chains
 pub record AddsProducts (p : ℕ) (cochain : List (ℕ × ℕ)) (chains : List (List (ℕ × ℕ))) (n : ℕ)

@@ -5,7 +5,8 @@ ghost use Rattle.chains.specs.Terms.{coefficient};
 ghost use Rattle.cube_sets.specs.Closures.{is_cell_of};
 ghost use Rattle.homology_basis.specs.Bases.{in_degree};
 ghost use Rattle.chain_selector.specs.Selections.{Extends};
-ghost use Rattle.induced_map.specs.Images.{IsRestrictedImage, AreRestrictedImages};
+ghost use Rattle.induced_map.specs.Images.{IsRestrictedImage};
+ghost use Rattle.induced_map.specs.Lists.{AreEach};
 ghost use Rattle.induced_map.specs.Within.{AreCellsOf, AreWithin};
 
 use cell_complex::Numbered;
@@ -29,9 +30,10 @@ pub(crate) fn images_of<const P: u16>(
     requires complex { length domain.now.log.complex.boundaries ≡ length domain_cells.now }
     ensures extends { Extends selector.old selector.new }
     ensures images { IfOk result (λ images.
-        AreRestrictedImages P selector.old.carrying domain_cells.now
-        (in_degree domain.now.cycles degree) range_cells.now
-        (length (in_degree domain.now.cycles degree)) images.items) }
+        AreEach
+        (IsRestrictedImage P selector.old.carrying domain_cells.now range_cells.now)
+        (in_degree domain.now.cycles degree) (length (in_degree domain.now.cycles degree))
+        images.items) }
 {
     let mut images = Vec::new(alloc);
     for number in 0..domain.dimension(degree) {
@@ -56,7 +58,7 @@ fn image_of<const P: u16>(
     requires chain { AreWithin domain_cells.now chain.now }
     ensures extends { Extends selector.old selector.new }
     ensures image { IfOk result (IsRestrictedImage P selector.old.carrying domain_cells.now
-        chain.now range_cells.now) }
+        range_cells.now chain.now) }
 {
     let cycle = renumbered(alloc, field, chain, domain_cells, selector.domain_cells())?;
     let image = selector.image_of_chain(field, &cycle)?;

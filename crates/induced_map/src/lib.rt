@@ -10,3 +10,4 @@ mod products;
 pub use entries::first_too_large;
 pub use inducing::matrices;
 pub use laws::products_are_the_matrix;
+pub use products::products_of;

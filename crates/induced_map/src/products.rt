@@ -9,8 +9,9 @@ use field_mod::Field;
 use homology_basis::Basis;
 use std::alloc::{AllocError as NoMemory, Global};
 
-/// The products of the cocycles of a degree with some chains, cocycle after cocycle.
-pub(crate) fn products_of<const P: u16>(
+/// The products of the cocycles of a degree with some chains over the numbers of the complex,
+/// modulo `P`, cocycle after cocycle.
+pub fn products_of<const P: u16>(
     alloc: Global,
     field: Field<P>,
     degree: u8,

@@ -22,7 +22,7 @@ use Rattle.acyclic_values.proofs.Contracting.{never_both}
 use Rattle.map_checks.specs.Firsts.{IsFirstOf}
 use Rattle.map_checks.specs.Faults.{together, AreNamed, Leaves, IsFirstOutside, IsHollowAt, HasNoSetFault}
 use Rattle.faults.specs.declared.fault.Fault.{Fault}
-use Rattle.faults.specs.declared.fault.Fault.TheVariants.{NoTool, NotAForm, CannotRead, BadText, NotComplex, Dimension, Limit, Undefined, LeavesRange, LeavesSubset, EmptyValue, NotAcyclic, CannotWriteOut, OutOfMemory}
+use Rattle.faults.specs.declared.fault.Fault.TheVariants.{NoTool, NotAForm, CannotRead, BadText, NotComplex, Dimension, Limit, Undefined, LeavesRange, LeavesSubset, EmptyValue, NotAcyclic, NotInRange, NotInSubset, Killed, Missed, CannotWriteOut, OutOfMemory}
 use Rattle.faults.specs.Statuses.{status_of, without_chain}
 use Rattle.faults.specs.declared.status.Status.TheVariants as statuses
 use Rattle.pair_maps.specs.MapRefusals.{IsShownHole, IsFirstHollow, RefusesMap}
@@ -132,6 +132,10 @@ module _ (p : ℕ) (map : List Naming) (x a y b : List (List Factor)) where
   none_refuses ft none (NotComplex name degree generator value at) r = r
   none_refuses ft none (Dimension name found earlier) r = r
   none_refuses ft none (Limit count number) r = r
+  none_refuses ft none (NotInRange cube) r = r
+  none_refuses ft none (NotInSubset cube) r = r
+  none_refuses ft none (Killed degree chain) r = r
+  none_refuses ft none (Missed degree chain) r = r
   none_refuses ft none CannotWriteOut r = r
   none_refuses ft none OutOfMemory r = r
 
@@ -207,6 +211,10 @@ module _ (p : ℕ) (map : List Naming) (x a y b : List (List Factor)) where
   view (NotComplex name degree generator value at) r = absurd r
   view (Dimension name found earlier) r = absurd r
   view (Limit count number) r = absurd r
+  view (NotInRange cube) r = absurd r
+  view (NotInSubset cube) r = absurd r
+  view (Killed degree chain) r = absurd r
+  view (Missed degree chain) r = absurd r
   view CannotWriteOut r = absurd r
   view OutOfMemory r = absurd r
 

@@ -1,9 +1,11 @@
 -- The texts of reports.
-use Rattle.std.specs.Prelude.{ℕ, ◌+◌, ◌==◌, if◌then◌else◌, List, [], ◌∷◌, ◌++◌, get_or, length, codes, decimal}
+use Rattle.std.specs.Prelude.{ℕ, ◌+◌, ◌==◌, if◌then◌else◌, List, [], ◌∷◌, ◌++◌, map, get_or, length, Option, None, Some, codes, decimal}
 use Rattle.std.specs.List.{flat_map}
 use Rattle.faults.specs.ChainText.{cell_text, number_text, chain_text}
 use Rattle.report.specs.declared.pair.PairReport.{PairReport}
 use Rattle.report.specs.declared.map_report.MapReport.{MapReport}
+use Rattle.report.specs.declared.index_part.IndexPart.{IndexPart}
+use Rattle.report.specs.declared.index_part.LerayRows.{LerayRows}
 use Rattle.report.specs.declared.reports.Report.{Report}
 use Rattle.report.specs.declared.reports.Report.TheVariants.{Pair, Map, Chain}
 use Rattle.report.specs.declared.reports.Shown.{Shown}
@@ -20,7 +22,9 @@ group_line p k d = codes "H_" ++ decimal k ++ codes " = " ++ group_text p d ++ c
 
 -- the line on the cycle of number j in degree k
 abbrev pub cycle_line : {G : Type 0} → (G → List ℕ) → ℕ → ℕ → List (G × ℕ) → List ℕ
-cycle_line write k j z = codes "z_" ++ decimal k ++ codes "_" ++ decimal j ++ codes " = " ++ chain_text write z ++ codes "\n"
+cycle_line write k j z =
+    codes "z_" ++ decimal k ++ codes "_" ++ decimal j ++ codes " = " ++ chain_text write z
+    ++ codes "\n"
 
 -- the lines on these cycles of degree k, which are numbered from j
 abbrev pub cycle_lines_from : {G : Type 0} → (G → List ℕ) → ℕ → ℕ → List (List (G × ℕ)) → List ℕ
@@ -36,16 +40,20 @@ abbrev pub degree_lines : {G : Type 0} → (G → List ℕ) → ℕ → ℕ → 
 degree_lines write p k d zs = group_line p k d ++ cycle_lines write k zs
 
 -- the lines of degree k and up, for these dimensions and the cycles of all degrees from 0
-abbrev pub group_lines_from : {G : Type 0} → (G → List ℕ) → ℕ → ℕ → List ℕ → List (List (List (G × ℕ))) → List ℕ
+abbrev pub group_lines_from : {G : Type 0} → (G → List ℕ) → ℕ → ℕ → List ℕ
+    → List (List (List (G × ℕ))) → List ℕ
 group_lines_from write p k [] cycles = []
-group_lines_from write p k (d ∷ ds) cycles = degree_lines write p k d (get_or cycles k []) ++ group_lines_from write p (k + 1) ds cycles
+group_lines_from write p k (d ∷ ds) cycles =
+    degree_lines write p k d (get_or cycles k []) ++ group_lines_from write p (k + 1) ds cycles
 
 -- the lines of degree 0 and up
-abbrev pub group_lines : {G : Type 0} → (G → List ℕ) → ℕ → List ℕ → List (List (List (G × ℕ))) → List ℕ
+abbrev pub group_lines : {G : Type 0} → (G → List ℕ) → ℕ → List ℕ → List (List (List (G × ℕ)))
+    → List ℕ
 group_lines write p ds cycles = group_lines_from write p 0 ds cycles
 
 -- the cycles that are printed
-abbrev pub shown_cycles : {G : Type 0} → Shown → List (List (List (G × ℕ))) → List (List (List (G × ℕ)))
+abbrev pub shown_cycles : {G : Type 0} → Shown → List (List (List (G × ℕ)))
+    → List (List (List (G × ℕ)))
 shown_cycles shown cycles = if shown.cycles then cycles else []
 
 -- the line on a count of this name
@@ -82,30 +90,68 @@ row_line [] = []
 row_line (entry ∷ entries) =
     codes " " ++ flat_map entry_text (entry ∷ entries) ++ codes "\n"
 
--- the line on the rank of a map in degree k
-abbrev pub rank_line : ℕ → ℕ → List ℕ
-rank_line k rank = codes "F_" ++ decimal k ++ codes " rank " ++ decimal rank ++ codes "\n"
+-- the line on the rank of a map of this letter in degree k
+abbrev pub rank_line : List ℕ → ℕ → ℕ → List ℕ
+rank_line letter k rank =
+    letter ++ codes "_" ++ decimal k ++ codes " rank " ++ decimal rank ++ codes "\n"
 
--- the lines on a map in degree k: its rank, and the rows of its matrix
-abbrev pub map_degree_lines : ℕ → ℕ → List (List ℕ) → List ℕ
-map_degree_lines k rank rows = rank_line k rank ++ flat_map row_line rows
+-- the rows that are printed
+abbrev pub shown_rows : Shown → List (List ℕ) → List (List ℕ)
+shown_rows shown rows = if shown.matrix then rows else []
+
+-- the lines on a map of this letter in degree k: its rank, and the rows of its matrix
+abbrev pub map_degree_lines : Shown → List ℕ → ℕ → ℕ → List (List ℕ) → List ℕ
+map_degree_lines shown letter k rank rows =
+    rank_line letter k rank ++ flat_map row_line (shown_rows shown rows)
 
 -- the lines of degree k and up, for these ranks and the matrices of all degrees from 0
-abbrev pub map_lines_from : ℕ → List ℕ → List (List (List ℕ)) → List ℕ
-map_lines_from k [] matrices = []
-map_lines_from k (rank ∷ ranks) matrices =
-    map_degree_lines k rank (get_or matrices k []) ++ map_lines_from (k + 1) ranks matrices
+abbrev pub map_lines_from : Shown → ℕ → List ℕ → List (List (List ℕ)) → List ℕ
+map_lines_from shown k [] matrices = []
+map_lines_from shown k (rank ∷ ranks) matrices =
+    map_degree_lines shown (codes "F") k rank (get_or matrices k [])
+    ++ map_lines_from shown (k + 1) ranks matrices
 
--- the matrices that are printed
-abbrev pub shown_matrices : Shown → List (List (List ℕ)) → List (List (List ℕ))
-shown_matrices shown matrices = if shown.matrix then matrices else []
+-- ---- index matrices
+
+-- the line on the size of a reduced Leray matrix in degree k
+abbrev pub size_line : ℕ → ℕ → List ℕ
+size_line k size = codes "L_" ++ decimal k ++ codes " = " ++ decimal size ++ codes "\n"
+
+-- the reduced Leray matrices, by degree
+abbrev pub reduced_of : List LerayRows → List (List (List ℕ))
+reduced_of leray = map (λ l. l.reduced) leray
+
+-- the lines on an index matrix in degree k, and the size and the rows of its reduced Leray matrix
+abbrev pub index_degree_lines : Shown → ℕ → ℕ → List (List ℕ) → List (List ℕ) → List ℕ
+index_degree_lines shown k rank rows reduced =
+    map_degree_lines shown (codes "N") k rank rows
+    ++ size_line k (length reduced) ++ flat_map row_line (shown_rows shown reduced)
+
+-- the lines of degree k and up, for these ranks and the matrices of all degrees from 0
+abbrev pub index_lines_from : Shown → ℕ → List ℕ → List (List (List ℕ))
+    → List (List (List ℕ)) → List ℕ
+index_lines_from shown k [] matrices reduced = []
+index_lines_from shown k (rank ∷ ranks) matrices reduced =
+    index_degree_lines shown k rank (get_or matrices k []) (get_or reduced k [])
+    ++ index_lines_from shown (k + 1) ranks matrices reduced
+
+-- the lines on index matrices
+abbrev pub index_text : IndexPart → Shown → List ℕ
+index_text index shown = codes "index\n"
+    ++ index_lines_from shown 0 index.ranks index.matrices.items (reduced_of index.leray.items)
+
+-- those that are wanted
+abbrev pub wanted_text : Option IndexPart → Shown → List ℕ
+wanted_text None shown = []
+wanted_text (Some index) shown = index_text index shown
 
 -- the lines on a map, and on the pairs between which it goes
 abbrev pub map_text : MapReport → Shown → List ℕ
 map_text map shown =
     codes "domain\n" ++ pair_lines map.domain shown
     ++ codes "range\n" ++ pair_lines map.range shown
-    ++ codes "map\n" ++ map_lines_from 0 map.ranks (shown_matrices shown map.matrices.items)
+    ++ codes "map\n" ++ map_lines_from shown 0 map.ranks map.matrices.items
+    ++ wanted_text map.index shown
 
 -- ---- reports
 
@@ -113,4 +159,5 @@ map_text map shown =
 abbrev pub report_text : Report → Shown → List ℕ
 report_text (Pair pair) shown = pair_lines pair shown
 report_text (Map map) shown = map_text map shown
-report_text (Chain dimensions cycles) shown = group_lines number_text shown.modulus dimensions (shown_cycles shown cycles)
+report_text (Chain dimensions cycles) shown =
+    group_lines number_text shown.modulus dimensions (shown_cycles shown cycles)

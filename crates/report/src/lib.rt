@@ -3,6 +3,8 @@
 
 mod cycles;
 mod dimensions;
+mod index_lines;
+mod index_part;
 mod lines;
 mod map_lines;
 mod map_report;
@@ -12,6 +14,7 @@ mod rows;
 
 pub use cycles::Cycles;
 pub use dimensions::Dimensions;
+pub use index_part::{IndexPart, LerayRows};
 pub use map_report::MapReport;
 pub use pair::PairReport;
 pub use reports::{Report, Shown, text};

@@ -1,5 +1,5 @@
 //! Reports on maps between pairs of cubical sets.
-use crate::{Dimensions, PairReport, Rows};
+use crate::{Dimensions, IndexPart, PairReport, Rows};
 
 /// What is printed on the map that a map of cubes induces in homology.
 #[derive(Drop)]
@@ -13,4 +13,6 @@ pub struct MapReport {
     /// The matrices of the map, by degree from 0: a row for each element of the basis of the range,
     /// a column for each of the domain. They may be left out where they are not printed.
     pub matrices: Vec<Rows>,
+    /// The index matrices, where they are wanted.
+    pub index: Option<IndexPart>,
 }

@@ -3,7 +3,7 @@ use crate::rows::{DONE, Row, all_answer};
 use faults::Status;
 use std::test::Fail;
 
-const FILES: [(&str, &str); 16] = [
+const FILES: [(&str, &str); 20] = [
     ("p", "(0)"),
     ("two", "(0) (1)"),
     ("apart", "(0) (5)"),
@@ -23,6 +23,10 @@ const FILES: [(&str, &str); 16] = [
     ("b", "(-4) (-3) (-2) (1) (2) (3)"),
     ("none", ""),
     ("same", "(0) -> (0)  (1) -> (1)"),
+    ("gap", "(0) (2)"),
+    ("away", "(1)"),
+    ("shift", "(0) -> (1)"),
+    ("onto", "(0) -> (0)  (2) -> (0)"),
 ];
 
 const REFUSED: Row = Row {
@@ -124,4 +128,55 @@ const INDUCED: [Row; 5] = [
 #[test]
 fn matrices_of_maps_are_told(rt: HostRuntime) -> Result<(), Fail> {
     all_answer(&rt, rt.alloc(), &FILES, &INDUCED)
+}
+
+// The same map on the line and its subset with their inclusion in the range and its subset; a set
+// that is not in the range, a subset that is not in the range's, and inclusions that send a class to
+// 0 or miss one.
+const INDEXED: [Row; 7] = [
+    Row {
+        words: &[
+            "homcubes", "--map", "double", "x", "a", "y", "b", "--index", "--matrix",
+        ],
+        out: "domain\nH_0 = 0\nH_1 = Z_2\nz_1_1 = 1 * [(-1)(0)] + 1 * [(0)(1)]\nrange\nH_0 = 0\nH_1 = Z_2\nz_1_1 = 1 * [(-1)(0)] + 1 * [(0)(1)]\nmap\nF_0 rank 0\nF_1 rank 1\n  1\nindex\nN_0 rank 0\nL_0 = 0\nN_1 rank 1\n  1\nL_1 = 1\n  1\n",
+        ..DONE
+    },
+    Row {
+        words: &[
+            "homcubes", "--index", "x", "a", "y", "b", "--map=double", "--mod=3",
+        ],
+        out: "domain\nH_0 = 0\nH_1 = Z_3\nrange\nH_0 = 0\nH_1 = Z_3\nmap\nF_0 rank 0\nF_1 rank 1\nindex\nN_0 rank 0\nL_0 = 0\nN_1 rank 1\nL_1 = 1\n",
+        ..DONE
+    },
+    Row {
+        words: &["homcubes", "--map", "shift", "p", "none", "away", "none", "--index"],
+        err: "error: index: (0) is not in the range\n",
+        ..REFUSED
+    },
+    Row {
+        words: &["homcubes", "--map", "shift", "p", "p", "two", "away", "--index"],
+        err: "error: index: (0) is not in the range's subset\n",
+        ..REFUSED
+    },
+    Row {
+        words: &["homcubes", "--map", "onto", "gap", "none", "three", "none", "--index"],
+        err: "error: index: degree 0: killed: 1 * [(0)(0)] + 1 * [(3)(3)]\n",
+        ..REFUSED
+    },
+    Row {
+        words: &["homcubes", "--map", "one", "p", "none", "gap", "none", "--index"],
+        err: "error: index: degree 0: missed: 1 * [(2)(2)] + 1 * [(3)(3)]\n",
+        ..REFUSED
+    },
+    Row {
+        words: &["homcubes", "x", "a", "--index"],
+        status: Status::Words,
+        err: "error: words: not a form of homcubes\n",
+        ..DONE
+    },
+];
+
+#[test]
+fn index_matrices_are_told(rt: HostRuntime) -> Result<(), Fail> {
+    all_answer(&rt, rt.alloc(), &FILES, &INDEXED)
 }

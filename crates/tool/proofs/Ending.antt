@@ -4,7 +4,7 @@ use Rattle.outside.specs.Disk.{Disk}
 use Rattle.outside.specs.Seen.{Seen}
 use Rattle.outside.specs.Told.{Gains}
 use Rattle.faults.specs.declared.fault.Fault.{Fault}
-use Rattle.faults.specs.declared.fault.Fault.TheVariants.{NoTool, NotAForm, CannotRead, BadText, NotComplex, Dimension, Limit, Undefined, LeavesRange, LeavesSubset, EmptyValue, NotAcyclic, CannotWriteOut, OutOfMemory}
+use Rattle.faults.specs.declared.fault.Fault.TheVariants.{NoTool, NotAForm, CannotRead, BadText, NotComplex, Dimension, Limit, Undefined, LeavesRange, LeavesSubset, EmptyValue, NotAcyclic, NotInRange, NotInSubset, Killed, Missed, CannotWriteOut, OutOfMemory}
 use Rattle.faults.specs.declared.status.Status.{Status}
 use Rattle.faults.specs.declared.status.Status.TheVariants as statuses
 use Rattle.faults.specs.Statuses.{status_of, without_chain}
@@ -15,6 +15,10 @@ use Rattle.tool.specs.Ends.{ReadFailed, EndsAs}
 
 status_without_chain : (fault : Fault) → status_of (without_chain fault) ≡ status_of fault
 status_without_chain (NotAcyclic cell degree cycle cocycle) = refl
+status_without_chain (NotInRange cube) = refl
+status_without_chain (NotInSubset cube) = refl
+status_without_chain (Killed degree chain) = refl
+status_without_chain (Missed degree chain) = refl
 status_without_chain NoTool = refl
 status_without_chain (NotAForm tool) = refl
 status_without_chain (CannotRead name) = refl
@@ -135,6 +139,10 @@ module _ (job : Job) (once : HasOneJudgement job) (old new : Seen) where
   caused_so (LeavesSubset cube value) c e = c
   caused_so (EmptyValue cell) c e = c
   caused_so (NotAcyclic cell degree cycle cocycle) c e = c
+  caused_so (NotInRange cube) c e = c
+  caused_so (NotInSubset cube) c e = c
+  caused_so (Killed degree chain) c e = c
+  caused_so (Missed degree chain) c e = c
   caused_so CannotWriteOut c e = c
   caused_so OutOfMemory c e = c
 

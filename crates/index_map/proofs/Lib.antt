@@ -1,0 +1,11 @@
+pub mod Inclusions
+pub mod Classes
+pub mod Inverting
+pub mod Combining
+pub mod Sides
+pub mod Solving
+pub mod Including
+pub mod Tops
+pub mod Kernels
+pub mod Existing
+pub mod Decided
