@@ -1,14 +1,14 @@
 -- A boundary among numbered cells, facet by facet
-use Rattle.std.proofs.Common.{◌≡◌, ℕ, ◌+◌, ◌*◌, ◌%◌, ◌<◌, ◌≤◌, sym, ap, ◌∙◌, subst, arith, ⊎_elim, List, [], ◌∷◌, ◌++◌, length, get_or, cond, eqb, eq-eqb, ne_eqb, take, Result, Ok, Err, OnOk}
+use Rattle.std.proofs.Common.{◌≡◌, ℕ, ◌+◌, ◌*◌, ◌%◌, ◌<◌, ◌≤◌, sym, ap, ◌∙◌, subst, arith, ⊎_elim, List, [], ◌∷◌, ◌++◌, length, get_or, cond, eqb, eq-eqb, ne_eqb, take, map, Result, Ok, Err, OnOk}
 use Rattle.std.specs.Prelude.{ℤ, pos}
 use Rattle.std.specs.List.{Contains}
 use Rattle.std.specs.Int.{int_rem_euclid}
 use Rattle.std.proofs.lemmas.Bool.{cases_lt, cases_eq}
-use Rattle.std.proofs.lemmas.List.{get_or_past, get_or_append_left, get_or_push, length_push, get_or_default, take_all, take_more}
+use Rattle.std.proofs.lemmas.List.{get_or_past, get_or_append_left, get_or_push, length_push, get_or_default, take_all, take_more, map-append}
 use native.Mathlib.Nat.{mod-mod}
 use Rattle.field_mod.specs.Modular.{Same}
 use Rattle.field_mod.proofs.Modular.{same_refl, same_trans, same-add}
-use Rattle.elem_cubes.specs.Cells.{Factor, same_cell}
+use Rattle.elem_cubes.specs.Cells.{Factor, same_cell, dimension_of}
 use Rattle.elem_cubes.specs.Faces.{faces_of}
 use Rattle.elem_cubes.specs.Boundary.{residue, boundary_coefficient, signed_sum}
 use Rattle.elem_cubes.specs.Laws.{cell_at}
@@ -160,6 +160,17 @@ turned_more terms new more place i n at inside pushed g so_far =
     omega (arith, one, add, next, so_far)
 
 -- ---- all cells
+
+pub degrees_more : (cells : List (List Factor)) (q : List Factor) (i d : ℕ) (ds new : List ℕ) → i < length cells
+    → ds ≡ map dimension_of (take i cells) → q ≡ cell_at cells i → d ≡ dimension_of q → new ≡ ds ++ d ∷ []
+    → new ≡ map dimension_of (take (i + 1) cells)
+degrees_more cells q i d ds new inside so_far read degree pushed =
+    pushed ∙ ap (λ (l : List ℕ). l ++ d ∷ []) so_far
+    ∙ ap (λ e. map dimension_of (take i cells) ++ e ∷ []) (degree ∙ ap dimension_of read)
+    ∙ sym (ap (map dimension_of) (take_more cells i [] inside) ∙ map-append dimension_of (take i cells) (cell_at cells i ∷ []))
+
+pub degrees_all : (cells : List (List Factor)) (i : ℕ) (ds : List ℕ) → length cells ≤ i → ds ≡ map dimension_of (take i cells) → ds ≡ map dimension_of cells
+degrees_all cells i ds end so_far = so_far ∙ ap (map dimension_of) (take_all i cells end)
 
 pub boundaries_none : (p : ℕ) (cells : List (List Factor)) (bs : List (List (ℕ × ℕ))) → bs ≡ [] → AreBoundaries p cells bs × (length bs ≡ 0)
 boundaries_none p cells bs e = (record { each = λ h l. absurd (let n : length bs ≡ 0 = ap length e in omega arith) }, ap length e)

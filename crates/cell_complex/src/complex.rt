@@ -26,22 +26,8 @@ pub fn complex_of<const P: u16>(
     requires { IsOfPair cells.now }
     ensures { IfOk result (IsComplexOf P cells.now) }
 {
-    let degrees = degrees_of(alloc, cells)?;
-    let boundaries = boundaries_of(alloc, field, cells)?;
+    let (degrees, boundaries) = parts_of(alloc, field, cells)?;
     Ok(Complex::of(degrees, boundaries))
-}
-
-fn degrees_of(alloc: Global, cells: &Numbered) -> Result<Vec<u8>, AllocError>
-    ensures degrees { IfOk result (λ degrees. degrees.items ≡ map dimension_of cells.now) }
-    ensures sorted { IsSortedCells cells.now }
-{
-    let mut degrees = Vec::with_capacity(alloc, cells.len() as usize)?;
-    let mut near = 0;
-    for number in 0..cells.len() {
-        let cell = cells.cell_near(number, &mut near);
-        degrees.push(degree_of(&cell))?;
-    }
-    Ok(degrees)
 }
 
 fn degree_of(cell: &Cell) -> u8
@@ -53,14 +39,18 @@ fn degree_of(cell: &Cell) -> u8
     dimension as u8
 }
 
-fn boundaries_of<const P: u16>(
+// The degrees and the boundaries of the cells, in one walk.
+fn parts_of<const P: u16>(
     alloc: Global,
     field: Field<P>,
     cells: &Numbered,
-) -> Result<Vec<Chain<P>>, AllocError>
-    ensures { IfOk result (λ boundaries. AreBoundaries P cells.now boundaries.items
-        × (length boundaries.items ≡ length cells.now)) }
+) -> Result<(Vec<u8>, Vec<Chain<P>>), AllocError>
+    ensures degrees { IfOk result (λ parts. parts.0.items ≡ map dimension_of cells.now) }
+    ensures boundaries { IfOk result (λ parts. AreBoundaries P cells.now parts.1.items
+        × (length parts.1.items ≡ length cells.now)) }
+    ensures sorted { IsSortedCells cells.now }
 {
+    let mut degrees = Vec::with_capacity(alloc, cells.len() as usize)?;
     let mut boundaries = Vec::with_capacity(alloc, cells.len() as usize)?;
     let mut lower = Vec::new(alloc);
     let mut upper = Vec::new(alloc);
@@ -68,11 +58,12 @@ fn boundaries_of<const P: u16>(
     let mut near = [0; ENDS];
     for number in 0..cells.len() {
         let cell = cells.cell_near(number, &mut near_cell);
+        degrees.push(degree_of(&cell))?;
         add_facets(field, cells, &cell, &mut near, &mut lower, &mut upper)?;
         let boundary = Chain::from_terms(alloc, field, &lower)?;
         boundaries.push(boundary)?;
     }
-    Ok(boundaries)
+    Ok((degrees, boundaries))
 }
 
 // Which end of which axis a facet of a cell is at: an odd number for a lower end.
