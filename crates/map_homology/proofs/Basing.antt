@@ -21,8 +21,9 @@ use Rattle.induced_map.specs.Pairs.{nth_by_cell}
 use Rattle.report.specs.declared.pair.PairReport.{PairReport}
 use Rattle.map_homology.specs.declared.bases.PairCells.{PairCells}
 use Rattle.map_homology.specs.Bases.{IsPrepared, IsBasisOfPair, IsPartOf, cycles_alone}
-use Rattle.map_homology.specs.Right.{nth_cycle, IsRightPart}
-use Rattle.map_homology.proofs.Terms.{cycles_by_cell}
+use Rattle.index_part.specs.Right.{nth_cycle}
+use Rattle.index_part.proofs.Terms.{cycles_by_cell}
+use Rattle.map_homology.specs.Right.{IsRightPart}
 
 pub basis_prepared : (p : ℕ) (x a : List (List Factor)) (pair : PairCells) (log : Reduced) (b : CyclesOfLog) → IsPrepared p x a pair log → b.log ≡ log → IsBasisByCycles p b → IsBasisOfPair p x a pair b
 basis_prepared p x a pair log b h e basis = record {

@@ -1,6 +1,8 @@
 -- The matrices, with the ranks and the cycles beside them, are right.
-use Rattle.std.proofs.Common.{◌≡◌, ◌⊎◌, ⊎_elim, ℕ, ◌+◌, ◌*◌, ◌<◌, ◌≤◌, sym, ap, ◌∙◌, arith, subst, List, [], length, get_or, map}
-use Rattle.std.proofs.lemmas.List.{length-map, get_or_default}
+use Rattle.std.proofs.Common.{◌≡◌, ◌⊎◌, ⊎_elim, ℕ, ◌+◌, ◌*◌, ◌<◌, ◌≤◌, sym, ap, ◌∙◌, arith, subst, List, [], length, get_or, map, Bool, true, Option, Some, None}
+use Rattle.std.specs.List.{Contains}
+use Rattle.std.proofs.lemmas.Bool.{true≢false}
+use Rattle.std.proofs.lemmas.List.{length-map}
 use Rattle.field_mod.specs.Sums.{total}
 use Rattle.field_mod.specs.Modular.{Same}
 use Rattle.field_mod.specs.Moduli.{IsModulus}
@@ -26,13 +28,22 @@ use Rattle.induced_map.specs.Matrices.{IsPairOfBasis, ArePairsOfMap, IsInduced, 
 use Rattle.basis_reports.specs.ByDegree.{AreByDegree}
 use Rattle.pair_maps.specs.declared.inputs.PairMap.{PairMap}
 use Rattle.pair_maps.specs.Inputs.{domain_of, range_of, dimension_of_map}
+use Rattle.report.specs.declared.index_part.IndexPart.{IndexPart}
 use Rattle.report.specs.declared.pair.PairReport.{PairReport}
 use Rattle.report.specs.declared.map_report.MapReport.{MapReport}
 use Rattle.map_homology.specs.declared.bases.PairCells.{PairCells}
-use Rattle.map_homology.specs.Filled.{IsFilled}
-use Rattle.map_homology.specs.Tables.{entry_of, AreRowsOf, IsRankOf}
-use Rattle.map_homology.specs.Bases.{AreBasesOf, AreBasesOfMap, IsPartOf, cycles_alone}
-use Rattle.map_homology.specs.Right.{nth_cycle, IsRightPart, IsRightMatrix, IsRightMap}
+use Rattle.index_map.specs.Inclusion.{IsIncluded}
+use Rattle.index_map.specs.Pairs.{IsIncludedPair, AreIncludedPairs, AreSized}
+use Rattle.index_map.proofs.Tops.{no_cycles_above}
+use Rattle.index_part.specs.Filled.{IsFilled}
+use Rattle.index_part.specs.Tables.{entry_of, AreRowsOf, IsRankOf}
+use Rattle.index_part.specs.Right.{nth_cycle}
+use Rattle.index_part.specs.Refusals.{RefusesIndex}
+use Rattle.index_part.proofs.RightIndex.{AreInducedBy, right_index}
+use Rattle.index_part.proofs.Judging.{allows}
+use Rattle.faults.specs.declared.fault.Fault.{Fault}
+use Rattle.map_homology.specs.Bases.{AreBasesOf, IsPartOf, IsIndexAsMade, cycles_alone}
+use Rattle.map_homology.specs.Right.{IsRightPart, IsRightMatrix, IsRightIndexAs, IsRightMap}
 use Rattle.map_homology.proofs.Basing.{printed_by_cell, right_part}
 
 -- ---- entries that are the same
@@ -62,10 +73,6 @@ same_induced p map domain range y b k columns zs rows ws e f same h g carried j 
       differs = λ q on. subst (λ (n : ℕ). Same p (image (cells_of domain) g (zs j) q) (n + (relative_complex p y b).boundary s.filling q))
           (total-same rows (λ i. e i j * ws i q) (λ i. f i j * ws i q) (λ i m. ap (λ n. n * ws i q) (sym (same i j m l)))) (s.differs q on);
     }
-
--- the rank of a matrix that stands in a list
-pub rank_there : (p : ℕ) (all : List Table) (i : ℕ) (table : Table) (rank : ℕ) → i < length all → table ≡ get_or all i table → IsRankOf p table rank → IsRankOf p (nth all i) rank
-rank_there p all i table rank l e h = subst (λ (t : Table). IsRankOf p t rank) (e ∙ get_or_default all i table none l) h
 
 -- ---- the pairs
 
@@ -131,17 +138,70 @@ module _ (p : ℕ) (m : PairMap) (c : Carrying) (domain : PairCells) (A : Cycles
       (subst (λ (r : List (List Factor)). IsAcyclicMap p c.map c.domain r) h.carrier.range h.carrier.carrier.acyclic)) in
       carried_maps_exist p m.map.named (domain_of m) (range_of m) (omega (arith, two_le p is_modulus)) on_map
 
-  pub right_map : (report : MapReport) (all : List Table) → length all ≡ c.dimension + 1
+  -- ---- the index part
+
+  included_pair : IsIncluded m.x.cells m.a.cells m.y.cells m.b.cells → IsIncludedPair p m.x.cells m.a.cells m.y.cells m.b.cells domain.cells A range.cells B
+  included_pair i = record { included = i; domain = h.of_domain.relative; range = h.of_range.relative }
+
+  pub included_pairs : IsIncluded m.x.cells m.a.cells m.y.cells m.b.cells → AreIncludedPairs p domain.cells A range.cells B
+  included_pairs i = record { x = m.x.cells; a = m.a.cells; y = m.y.cells; b = m.b.cells; pairs = included_pair i }
+
+  domain_short : (q : List Factor) → Contains m.x.cells q → length q ≤ c.dimension
+  domain_short q w = let e = h.carrier.carrier.dimension q (subst (λ (d : List (List Factor)). Contains d q) (sym h.carrier.domain) (left_together m.x.cells m.a.cells q w)) in omega (arith, e)
+
+  range_short : (q : List Factor) → Contains m.y.cells q → length q ≤ c.dimension
+  range_short q w = let e = h.carrier.carrier.range_dimension q (subst (λ (d : List (List Factor)). Contains d q) (sym h.carrier.range) (left_together m.y.cells m.b.cells q w)) in omega (arith, e)
+
+  module _ (all : List Table) (count : length all ≡ c.dimension + 1) (matrices : (k : ℕ) → k < length all → IsMatrixOf p c domain.cells A range.cells B k (nth all k)) where
+    induced_in : (k : ℕ) → k < length all → IsInduced p c m.y.cells m.b.cells domain.cells A range.cells B k (nth all k)
+    induced_in k l = matrices k l m.x.cells m.a.cells m.y.cells m.b.cells pair_of_basis
+
+    pub sized : c.dimension ≤ 255 → AreSized A B all
+    sized few = record {
+      few = omega (arith, count, few);
+      rows = λ k l. (induced_in k l).rows;
+      columns = λ k l. (induced_in k l).columns;
+      no_cycles = λ k l. no_cycles_above p c.dimension k m.x.cells m.a.cells domain.cells A h.of_domain.relative h.of_domain.basis domain_short (omega (arith, l, count));
+      no_range_cycles = λ k l. no_cycles_above p c.dimension k m.y.cells m.b.cells range.cells (cycles_alone B) h.of_range.relative h.of_range.basis range_short (omega (arith, l, count));
+    }
+
+    induced_by : IsIncluded m.x.cells m.a.cells m.y.cells m.b.cells → AreInducedBy p m domain.cells A range.cells B all
+    induced_by i = record {
+      pair = included_pair i;
+      count = count ∙ ap (λ n. n + 1) h.carrier.dimension;
+      printed = λ k. printed_by_cell p m.x.cells m.a.cells domain A is_modulus h.of_domain k;
+      each = λ k l.
+          let n = length (in_degree A.cycles k) in
+          let zs = nth_by_cell domain.cells (in_degree A.cycles k) in
+          let r = length (in_degree B.cycles k) in
+          let ws = nth_by_cell range.cells (in_degree B.cycles k) in
+          subst (λ (map : List Naming). IsInducedMatrix p map (domain_of m) (range_of m) m.y.cells m.b.cells k n zs r ws (entry (nth all k))) h.carrier.map
+          (subst (λ (d : List (List Factor)). IsInducedMatrix p c.map d (range_of m) m.y.cells m.b.cells k n zs r ws (entry (nth all k))) h.carrier.domain
+          (subst (λ (d : List (List Factor)). IsInducedMatrix p c.map c.domain d m.y.cells m.b.cells k n zs r ws (entry (nth all k))) h.carrier.range (induced_in k l).induced));
+    }
+
+    right_as : (wanted : Bool) (index : Option IndexPart) (cycles : ℕ → List (List (List Factor × ℕ))) → ((k : ℕ) → k ≤ dimension_of_map m → cycles k ≡ domain_cycles k) → (wanted ≡ true → IsIncluded m.x.cells m.a.cells m.y.cells m.b.cells)
+        → IsIndexAsMade p wanted domain.cells A range.cells B all index → IsRightIndexAs p wanted m cycles index
+    right_as wanted None cycles same included made = made
+    right_as wanted (Some part) cycles same included (on, made, invertible) = (
+      on,
+      right_index p m domain.cells A range.cells B all (omega (arith, two_le p is_modulus)) (induced_by (included on)) part cycles same made
+          (invertible m.x.cells m.a.cells m.y.cells m.b.cells (included_pair (included on))),
+    )
+
+  pub right_map : (wanted : Bool) (report : MapReport) (all : List Table) → length all ≡ c.dimension + 1
       → ((k : ℕ) → k < length all → IsMatrixOf p c domain.cells A range.cells B k (nth all k))
       → IsFilled 0 (λ k. IsRankOf p (nth all k)) (length all) report.ranks → IsFilled [] (λ k. AreRowsOf p (nth all k)) (length all) report.matrices.items
-      → IsPartOf domain A.cycles c.dimension report.domain → IsPartOf range B.cycles c.dimension report.range → IsRightMap p m report
-  right_map report all count matrices ranks tables domain_part range_part = record {
+      → IsPartOf domain A.cycles c.dimension report.domain → IsPartOf range B.cycles c.dimension report.range
+      → (wanted ≡ true → IsIncluded m.x.cells m.a.cells m.y.cells m.b.cells) → IsIndexAsMade p wanted domain.cells A range.cells B all report.index → IsRightMap p wanted m report
+  right_map wanted report all count matrices ranks tables domain_part range_part included made = record {
     domain = subst (λ (n : ℕ). IsRightPart p n m.x.cells m.a.cells report.domain) h.carrier.dimension (right_part p m.x.cells m.a.cells domain A is_modulus h.of_domain c.dimension report.domain domain_part);
     range = subst (λ (n : ℕ). IsRightPart p n m.y.cells m.b.cells report.range) h.carrier.dimension (right_part p m.y.cells m.b.cells range (cycles_alone B) is_modulus h.of_range c.dimension report.range range_part);
     carried = some_map;
     rank_degrees = ranks.count ∙ count ∙ ap (λ n. n + 1) h.carrier.dimension;
     matrix_degrees = tables.count ∙ count ∙ ap (λ n. n + 1) h.carrier.dimension;
     matrices = λ k l. in_degree_right k (omega (arith, l, h.carrier.dimension, count));
+    index = right_as all count matrices wanted report.index (λ k. get_or report.domain.cycles k []) (λ k l. domain_part.by_degree.cycle k (omega (arith, l, h.carrier.dimension))) included made;
   }
     where
       in_degree_right : (k : ℕ) → k < length all → IsRightMatrix p m k (get_or report.domain.cycles k []) (get_or report.range.cycles k []) (get_or report.ranks k 0) (get_or report.matrices.items k [])
@@ -153,3 +213,8 @@ module _ (p : ℕ) (m : PairMap) (c : Carrying) (domain : PairCells) (A : Cycles
 
   pub pairs_of_map : ArePairsOfMap p c domain.cells A range.cells B
   pairs_of_map = record { x = m.x.cells; a = m.a.cells; y = m.y.cells; b = m.b.cells; pairs = pair_of_basis }
+
+-- where a right index part stands as it is wanted, nothing refuses it
+pub index_allowed : (p : ℕ) (m : PairMap) (wanted : Bool) (cycles : ℕ → List (List (List Factor × ℕ))) (index : Option IndexPart) → IsRightIndexAs p wanted m cycles index → (fault : Fault) → wanted ≡ true → RefusesIndex p m fault → ⊥
+index_allowed p m wanted cycles None off fault on r = true≢false (sym on ∙ off)
+index_allowed p m wanted cycles (Some part) (on, right) fault _ r = allows p m right.included right.invertible fault r

@@ -14,7 +14,7 @@ use Rattle.pair_maps.specs.declared.inputs.PairMap.{PairMap}
 use Rattle.pair_maps.specs.Inputs.{dimension_of_map}
 use Rattle.map_homology.specs.declared.bases.PairCells.{PairCells}
 use Rattle.map_homology.specs.Bases.{AreBasesOf, cycles_alone}
-use Rattle.map_homology.specs.Right.{nth_cycle}
+use Rattle.index_part.specs.Right.{nth_cycle}
 use Rattle.map_homology.specs.Refusals.{most_entries, HasLargeMatrix}
 use Rattle.map_homology.proofs.Basing.{right_in_degree, as_many}
 use Rattle.map_homology.proofs.Complexes.{PairBases}
@@ -34,25 +34,25 @@ never_large : (a b c d : ℕ) → a ≡ c → b ≡ d → d * c ≤ most_entries
 never_large a b c d e f few more = let g : b * a ≡ d * c = ap (λ n. n * a) f ∙ ap (λ n. d * n) e in omega (arith, few, more, g)
 
 module _ (p : ℕ) (m : PairMap) (is_modulus : IsModulus p) where
-  pub large_or_none : PairBases p (dimension_of_map m) m.x.cells m.a.cells → PairBases p (dimension_of_map m) m.y.cells m.b.cells → HasLargeMatrix p m ⊎ (HasLargeMatrix p m → ⊥)
+  pub large_or_none : PairBases p m.x.cells m.a.cells → PairBases p m.y.cells m.b.cells → HasLargeMatrix p m ⊎ (HasLargeMatrix p m → ⊥)
   large_or_none domain range = ⊎_elim
       (λ (k, l, more). inl (record {
         degree = k;
         within = omega (arith, l);
-        columns = get_or domain.counts k 0;
-        rows = get_or range.counts k 0;
+        columns = domain.counts k;
+        rows = range.counts k;
         zs = domain.cycles k;
         ws = range.cycles k;
-        domain = domain.bases k (omega (arith, l));
-        range = range.bases k (omega (arith, l));
+        domain = domain.bases k;
+        range = range.bases k;
         large = more;
       }))
       (λ few. inr (λ h.
-      never_large h.columns h.rows (get_or domain.counts h.degree 0) (get_or range.counts h.degree 0)
-      (one_length p h.degree h.columns (get_or domain.counts h.degree 0) (relative_complex p m.x.cells m.a.cells) h.zs (domain.cycles h.degree) (is_field p is_modulus) (relative_complexes_are_complexes.operator p m.x.cells m.a.cells) h.domain (domain.bases h.degree h.within))
-      (one_length p h.degree h.rows (get_or range.counts h.degree 0) (relative_complex p m.y.cells m.b.cells) h.ws (range.cycles h.degree) (is_field p is_modulus) (relative_complexes_are_complexes.operator p m.y.cells m.b.cells) h.range (range.bases h.degree h.within))
+      never_large h.columns h.rows (domain.counts h.degree) (range.counts h.degree)
+      (one_length p h.degree h.columns (domain.counts h.degree) (relative_complex p m.x.cells m.a.cells) h.zs (domain.cycles h.degree) (is_field p is_modulus) (relative_complexes_are_complexes.operator p m.x.cells m.a.cells) h.domain (domain.bases h.degree))
+      (one_length p h.degree h.rows (range.counts h.degree) (relative_complex p m.y.cells m.b.cells) h.ws (range.cycles h.degree) (is_field p is_modulus) (relative_complexes_are_complexes.operator p m.y.cells m.b.cells) h.range (range.bases h.degree))
       (few h.degree (omega (arith, h.within))) h.large))
-      (large_below (dimension_of_map m + 1) (λ k. get_or domain.counts k 0) (λ k. get_or range.counts k 0))
+      (large_below (dimension_of_map m + 1) (λ k. domain.counts k) (λ k. range.counts k))
 
   module _ (c : Carrying) (domain : PairCells) (A : CyclesOfLog) (range : PairCells) (B : BasisOfLog) (h : AreBasesOf p m c domain A range B) where
     -- bases that would have too large a matrix show one

@@ -1,5 +1,3 @@
-pub mod Terms
-pub mod Filling
 pub mod Excised
 pub mod Basing
 pub mod Inducing

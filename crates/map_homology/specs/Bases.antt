@@ -1,5 +1,5 @@
 -- Bases of the homology of the two pairs of a map, by the numbers of their relative cells.
-use Rattle.std.specs.Prelude.{◌≡◌, ℕ, ◌+◌, List, length}
+use Rattle.std.specs.Prelude.{◌≡◌, ℕ, ◌+◌, List, length, Bool, true, false, Option, Some, None}
 use Rattle.elem_cubes.specs.Cells.{Factor}
 use Rattle.algebraic_reduction.specs.Laws.{NothingLeft}
 use Rattle.algebraic_reduction.specs.LogWords.{Reduced}
@@ -8,10 +8,15 @@ use Rattle.cell_complex.specs.Numbering.{IsRelativeComplex, cell_terms}
 use Rattle.homology_basis.specs.Bases.{BasisOfLog, CyclesOfLog, IsBasisByCycles}
 use Rattle.basis_reports.specs.Right.{CyclesOver, AreRightCounts}
 use Rattle.basis_reports.specs.ByDegree.{AreByDegree}
+use Rattle.leray_conley.specs.Tables.{Table}
 use Rattle.map_checks.specs.Carriers.{Carrying}
 use Rattle.pair_maps.specs.declared.inputs.PairMap.{PairMap}
 use Rattle.pair_maps.specs.Refusals.{IsCarrierOf}
 use Rattle.report.specs.declared.pair.PairReport.{PairReport}
+use Rattle.report.specs.declared.index_part.IndexPart.{IndexPart}
+use Rattle.index_map.specs.Inclusion.{IsIncluded, IsInvertibleInclusion}
+use Rattle.index_map.specs.Pairs.{IsIncludedPair}
+use Rattle.index_part.specs.Made.{IsIndexPart}
 use Rattle.map_homology.specs.declared.bases.PairCells.{PairCells}
 
 -- the cells of the pair of x and a, with its counts, and a log of its complex that leaves no
@@ -42,11 +47,27 @@ pub record AreBasesOf (p : ℕ) (m : PairMap) (c : Carrying) (domain : PairCells
   pub of_domain : IsBasisOfPair p m.x.cells m.a.cells domain A
   pub of_range : IsBasisOfPair p m.y.cells m.b.cells range (cycles_alone B)
 
+-- .. and where index matrices are wanted the pair of the domain is included in that of the range
+pub record AreBasesWith (p : ℕ) (wanted : Bool) (m : PairMap) (c : Carrying) (domain : PairCells)
+    (A : CyclesOfLog) (range : PairCells) (B : BasisOfLog) : Type 0 where
+  pub bases : AreBasesOf p m c domain A range B
+  pub included : wanted ≡ true → IsIncluded m.x.cells m.a.cells m.y.cells m.b.cells
+
 -- .. for some map
-pub record AreBasesOfMap (p : ℕ) (c : Carrying) (domain : PairCells) (A : CyclesOfLog)
-    (range : PairCells) (B : BasisOfLog) : Type 0 where
+pub record AreBasesOfMap (p : ℕ) (wanted : Bool) (c : Carrying) (domain : PairCells)
+    (A : CyclesOfLog) (range : PairCells) (B : BasisOfLog) : Type 0 where
   pub map : PairMap
-  pub bases : AreBasesOf p map c domain A range B
+  pub bases : AreBasesWith p wanted map c domain A range B
+
+-- the index part of these matrices where it is wanted, and then the inclusion is invertible
+-- whatever the pairs are; else none
+abbrev pub IsIndexAsMade : ℕ → Bool → List (List Factor) → CyclesOfLog → List (List Factor)
+    → BasisOfLog → List Table → Option IndexPart → Type 0
+IsIndexAsMade p wanted domain_cells A range_cells B induced None = wanted ≡ false
+IsIndexAsMade p wanted domain_cells A range_cells B induced (Some part) =
+    (wanted ≡ true) × IsIndexPart p domain_cells A range_cells B induced part
+    × ((x a y b : List (List Factor)) → IsIncludedPair p x a y b domain_cells A range_cells B
+    → (k : ℕ) → IsInvertibleInclusion p x a y b k)
 
 -- the report has the dimensions and the cycles of the basis, with the cells in place of their
 -- numbers, by degree from 0 to n, and the counts of the pair

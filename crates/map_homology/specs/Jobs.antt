@@ -1,5 +1,5 @@
 -- What `homcubes --map` is asked to do.
-use Rattle.std.specs.Prelude.{◌≡◌, ℕ, List}
+use Rattle.std.specs.Prelude.{◌≡◌, ℕ, List, Bool}
 use Rattle.report.specs.declared.map_report.MapReport.{MapReport}
 use Rattle.report.specs.declared.reports.Report.TheVariants.{Map}
 use Rattle.report.specs.declared.reports.Shown.{Shown}
@@ -13,9 +13,9 @@ use Rattle.map_homology.specs.Right.{IsRightMap}
 use Rattle.map_homology.specs.Refusals.{RefusesMapHomology}
 
 -- the text of a right report on the map
-abbrev pub IsMapText : Shown → PairMap → List ℕ → Type 0
-IsMapText shown m text =
-    (report : MapReport) × IsRightMap shown.modulus m report × (text ≡ report_text (Map report) shown)
+abbrev pub IsMapText : Shown → Bool → PairMap → List ℕ → Type 0
+IsMapText shown wanted m text = (report : MapReport)
+    × IsRightMap shown.modulus wanted m report × (text ≡ report_text (Map report) shown)
 
 -- how the report is printed
 abbrev pub shown_of : MapJob → Shown
@@ -32,6 +32,6 @@ map_job job = record {
   names = names_of job.files;
   most = bytes_of job.files;
   gives = IsPairMapIn job.files;
-  refuses = RefusesMapHomology (modulus_of job.modulus);
-  answers = IsMapText (shown_of job);
+  refuses = RefusesMapHomology (modulus_of job.modulus) job.index;
+  answers = IsMapText (shown_of job) job.index;
 }

@@ -1,5 +1,5 @@
 -- What refuses a map of pairs whose induced map is wanted.
-use Rattle.std.specs.Prelude.{◌≡◌, ◌⊎◌, ℕ, ◌*◌, ◌<◌, ◌≤◌, List}
+use Rattle.std.specs.Prelude.{◌≡◌, ◌⊎◌, ℕ, ◌*◌, ◌<◌, ◌≤◌, List, Bool, true}
 use Rattle.elem_cubes.specs.Cells.{Factor}
 use Rattle.chains.specs.Homology.{IsBasis}
 use Rattle.cell_complex.specs.RelativeComplex.{relative_complex}
@@ -10,6 +10,7 @@ use Rattle.loading.specs.Jobs.{IsAllowed}
 use Rattle.pair_maps.specs.declared.inputs.PairMap.{PairMap}
 use Rattle.pair_maps.specs.Inputs.{dimension_of_map}
 use Rattle.pair_maps.specs.Refusals.{RefusesPairMap}
+use Rattle.index_part.specs.Refusals.{RefusesIndex}
 
 -- the most entries of a matrix
 abbrev pub most_entries : ℕ
@@ -29,7 +30,12 @@ pub record HasLargeMatrix (p : ℕ) (m : PairMap) : Type 0 where
   pub large : most_entries < rows * columns
 
 -- what refuses the map of the pairs, and then the entries of a matrix
-abbrev pub RefusesMapHomology : ℕ → PairMap → Fault → Type 0
-RefusesMapHomology p m fault = RefusesPairMap p m fault
+abbrev pub RefusesMatrices : ℕ → PairMap → Fault → Type 0
+RefusesMatrices p m fault = RefusesPairMap p m fault
     ⊎ (IsAllowed (RefusesPairMap p) m × HasLargeMatrix p m
     × (fault ≡ Limit MatrixEntries most_entries))
+
+-- .. and, where index matrices are wanted, then what refuses these
+abbrev pub RefusesMapHomology : ℕ → Bool → PairMap → Fault → Type 0
+RefusesMapHomology p wanted m fault = RefusesMatrices p m fault
+    ⊎ ((wanted ≡ true) × IsAllowed (RefusesMatrices p) m × RefusesIndex p m fault)

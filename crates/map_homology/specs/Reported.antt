@@ -1,5 +1,5 @@
 -- What is promised of a report on a map of pairs.
-use Rattle.std.specs.Prelude.{◌≡◌, ◌⊎◌, ℕ, Result, Ok, Err}
+use Rattle.std.specs.Prelude.{◌≡◌, ◌⊎◌, ℕ, Bool, Result, Ok, Err}
 use Rattle.faults.specs.declared.fault.Fault.{Fault}
 use Rattle.faults.specs.declared.fault.Fault.TheVariants.{OutOfMemory}
 use Rattle.loading.specs.Jobs.{IsAllowed}
@@ -9,6 +9,7 @@ use Rattle.map_homology.specs.Right.{IsRightMap}
 use Rattle.map_homology.specs.Refusals.{RefusesMapHomology}
 
 -- a right report, where nothing refuses the map; else what refuses it, or that memory ran out
-abbrev pub IsReported : ℕ → PairMap → Result MapReport Fault → Type 0
-IsReported p m (Ok report) = IsRightMap p m report × IsAllowed (RefusesMapHomology p) m
-IsReported p m (Err fault) = RefusesMapHomology p m fault ⊎ (fault ≡ OutOfMemory)
+abbrev pub IsReported : ℕ → Bool → PairMap → Result MapReport Fault → Type 0
+IsReported p wanted m (Ok report) =
+    IsRightMap p wanted m report × IsAllowed (RefusesMapHomology p wanted) m
+IsReported p wanted m (Err fault) = RefusesMapHomology p wanted m fault ⊎ (fault ≡ OutOfMemory)

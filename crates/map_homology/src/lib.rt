@@ -3,11 +3,11 @@
 
 mod bases;
 mod entries;
+mod inclusion;
 mod laws;
 mod map_job;
 mod parts;
 mod reporting;
-mod tables;
 
 pub use laws::map_jobs_have_one_judgement;
 pub use map_job::{MapJob, homology_of_map};

@@ -31,6 +31,8 @@ pub struct MapJob {
     pub matrix: bool,
     /// Whether the counts are printed.
     pub stats: bool,
+    /// Whether the index matrices are wanted.
+    pub index: bool,
 }
 
 impl MapJob {
@@ -64,18 +66,23 @@ pub fn homology_of_map<F: Files>(
 // The same of a map and pairs that were read.
 fn compute(alloc: Global, job: &MapJob, input: &PairMap) -> Result<Answer, Fault>
     requires { IsFitting input.now }
-    ensures { Computes (RefusesMapHomology (modulus_of job.now.modulus))
-        (IsMapText (shown_of job.now)) input.now result }
+    ensures { Computes (RefusesMapHomology (modulus_of job.now.modulus) job.now.index)
+        (IsMapText (shown_of job.now) job.now.index) input.now result }
 {
-    let report = map_report(alloc, job.modulus, input)?;
+    let report = map_report(alloc, job.modulus, input, job.index)?;
     answer_of(alloc, &Report::Map(report), &job.shown())
 }
 
 // What is printed on the map.
-fn map_report(alloc: Global, modulus: Modulus, input: &PairMap) -> Result<MapReport, Fault>
+fn map_report(
+    alloc: Global,
+    modulus: Modulus,
+    input: &PairMap,
+    wanted: bool,
+) -> Result<MapReport, Fault>
     requires { IsFitting input.now }
     ensures table { IsModulus modulus }
-    ensures reported { IsReported modulus input.now result }
+    ensures reported { IsReported modulus wanted input.now result }
 {
-    by_modulus!(modulus.number(), field => report_over(alloc, field, input))
+    by_modulus!(modulus.number(), field => report_over(alloc, field, input, wanted))
 }

@@ -1,40 +1,54 @@
 //! The report on a map of pairs.
-ghost use Rattle.std.specs.Prelude.{IfOk};
+ghost use Rattle.std.specs.Prelude.{◌≡◌, ◌⊎◌, IfOk, IfErr, IsTrue};
 ghost use Rattle.pair_maps.specs.declared.inputs.PairMap.{PairMap as PairMaps};
 ghost use Rattle.pair_maps.specs.Inputs.{IsFitting};
 ghost use Rattle.induced_map.specs.Matrices.{HaveFewEntries};
-ghost use Rattle.map_homology.specs.Bases.{AreBasesOf, AreBasesOfMap};
+ghost use Rattle.index_part.specs.Made.{TellsFault};
+ghost use Rattle.map_homology.specs.Bases.{AreBasesWith, AreBasesOfMap};
 ghost use Rattle.map_homology.specs.Right.{IsRightMap};
 ghost use Rattle.map_homology.specs.Reported.{IsReported};
 
 use crate::bases::{PairCells, domain_basis, range_basis};
 use crate::entries::test_entries;
+use crate::inclusion::{index_of, test_inclusion};
 use crate::parts::part_of;
-use crate::tables::{ranks_of, tables_of};
 use chain_selector::Selector;
 use faults::Fault;
 use field_mod::Field;
 use homology_basis::{Basis, CycleBasis};
+use index_part::{ranks_of, tables_of};
 use induced_map::matrices;
 use map_checks::Carrier;
 use pair_maps::{PairMap, carrier_of};
 use report::MapReport;
-use std::alloc::{AllocError as NoMemory, Global};
+use std::alloc::Global;
 
-/// The homology of both pairs of a map, and what the map induces in it, or the first refusal.
+/// The homology of both pairs of a map, and what the map induces in it, with the index part where
+/// that is wanted; or the first refusal.
 pub(crate) fn report_over<const P: u16>(
     alloc: Global,
     field: Field<P>,
     input: &PairMap,
+    wanted: bool,
 ) -> Result<MapReport, Fault>
     requires { IsFitting input.now }
-    ensures { IsReported P input.now result }
+    ensures { IsReported P wanted input.now result }
 {
     let carrier = carrier_of(alloc, field, input)?;
     let (domain, cycles) = domain_basis(alloc, field, &input.x, &input.a)?;
     let (range, basis) = range_basis(alloc, field, &input.y, &input.b)?;
     test_entries(&cycles, &basis, carrier.dimension())?;
-    let report = report_of(alloc, field, carrier, domain, &cycles, range, &basis)?;
+    test_inclusion(input, wanted)?;
+    let report = report_of(
+        alloc,
+        field,
+        carrier,
+        domain,
+        &cycles,
+        range,
+        &basis,
+        wanted,
+    )?;
     Ok(report)
 }
 
@@ -47,12 +61,16 @@ fn report_of<const P: u16>(
     cycles: &CycleBasis<P>,
     range: PairCells,
     basis: &Basis<P>,
-) -> Result<MapReport, NoMemory>
-    requires bases { AreBasesOfMap P carrier domain cycles.now range basis.now }
+    wanted: bool,
+) -> Result<MapReport, Fault>
+    requires bases { AreBasesOfMap P wanted carrier domain cycles.now range basis.now }
     requires few { HaveFewEntries cycles.now basis.now carrier.dimension }
-    ensures { IfOk result (λ report. (m : PairMaps)
-        → AreBasesOf P m carrier.entry domain cycles.now range basis.now
-        → IsRightMap P m report) }
+    ensures report { IfOk result (λ report. (m : PairMaps)
+        → AreBasesWith P wanted m carrier.entry domain cycles.now range basis.now
+        → IsRightMap P wanted m report) }
+    ensures fault { IfErr result (λ fault. (IsTrue wanted
+        × TellsFault P domain.cells cycles.now range.cells basis.now fault)
+        ⊎ (fault ≡ Fault.OutOfMemory)) }
 {
     let last = carrier.dimension();
     let mut selector = Selector::new(alloc, field, carrier)?;
@@ -65,6 +83,16 @@ fn report_of<const P: u16>(
         &range.cells,
         &mut selector,
     )?;
+    let index = index_of(
+        alloc,
+        field,
+        cycles,
+        &domain.cells,
+        basis,
+        &range.cells,
+        &all,
+        wanted,
+    )?;
     let ranks = ranks_of(alloc, field, &all)?;
     let tables = tables_of(alloc, &all)?;
     let domain = part_of(alloc, domain, cycles, last)?;
@@ -74,5 +102,6 @@ fn report_of<const P: u16>(
         range,
         ranks,
         matrices: tables,
+        index,
     })
 }

@@ -1,7 +1,7 @@
 use Rattle.std.proofs.Common.{[], map}
-use Rattle.map_homology.specs.Filled.{IsFilled}
-use Rattle.map_homology.specs.Tables.{IsRowOf}
-use Rattle.map_homology.proofs.tables.rows_of.Given as goal
+use Rattle.index_part.specs.Filled.{IsFilled}
+use Rattle.index_part.specs.Tables.{IsRowOf}
+use Rattle.index_part.proofs.tables.rows_of.Given as goal
 
 abbrev pub invariant-loop-i : goal.invariant-loop-i
 invariant-loop-i g l = IsFilled [] (IsRowOf g.row.P l.matrix) l.i (map (λ row. row.items) l.rows.items)

@@ -2,7 +2,7 @@
 use Rattle.std.proofs.Common.{◌≡◌, ℕ, ◌+◌, ◌<◌, List, [], ◌∷◌, ◌++◌, length, get_or, ap, sym, ◌∙◌, subst, arith, ⊎_elim}
 use Rattle.std.proofs.lemmas.Bool.{cases_lt}
 use Rattle.std.proofs.lemmas.List.{length_push, get_or_push, get_or_append_left}
-use Rattle.map_homology.specs.Filled.{IsFilled}
+use Rattle.index_part.specs.Filled.{IsFilled}
 
 module _ {A : Type 0} (none : A) (IsAt : ℕ → A → Type 0) where
   pub none_filled : (xs : List A) → xs ≡ [] → IsFilled none IsAt 0 xs

@@ -11,7 +11,7 @@ use Rattle.cell_complex.specs.Numbering.{IsListing, number_of, by_cell, cell_coe
 use Rattle.cell_complex.proofs.Numbering.{listed, number_at, number_within, at_number}
 use Rattle.excision.proofs.Placing.{number_missing}
 use Rattle.induced_map.specs.Pairs.{nth_by_cell}
-use Rattle.map_homology.specs.Right.{nth_cycle}
+use Rattle.index_part.specs.Right.{nth_cycle}
 
 module _ (test : List Factor → Bool) (cells : List (List Factor)) (l : IsListing test cells) where
   -- no coefficient stands past the cells

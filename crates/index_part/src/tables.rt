@@ -1,8 +1,8 @@
 //! Matrices as they are printed, and their ranks.
 ghost use Rattle.std.specs.Prelude.{◌≡◌, ◌<◌, length, IfOk, []};
 ghost use Rattle.induced_map.specs.Matrices.{nth};
-ghost use Rattle.map_homology.specs.Filled.{IsFilled};
-ghost use Rattle.map_homology.specs.Tables.{IsRowOf, AreRowsOf, IsRankOf};
+ghost use Rattle.index_part.specs.Filled.{IsFilled};
+ghost use Rattle.index_part.specs.Tables.{IsRowOf, AreRowsOf, IsRankOf};
 
 use field_mod::Field;
 use leray_conley::Matrix;
@@ -21,8 +21,8 @@ fn row_of<const P: u16>(alloc: Global, matrix: &Matrix<P>, i: u32) -> Result<Vec
     Ok(row)
 }
 
-// The rows of a matrix.
-fn rows_of<const P: u16>(alloc: Global, matrix: &Matrix<P>) -> Result<Rows, NoMemory>
+/// The rows of a matrix.
+pub fn rows_of<const P: u16>(alloc: Global, matrix: &Matrix<P>) -> Result<Rows, NoMemory>
     ensures { IfOk result (AreRowsOf P matrix.now) }
 {
     let mut rows = Vec::new(alloc);
@@ -33,7 +33,7 @@ fn rows_of<const P: u16>(alloc: Global, matrix: &Matrix<P>) -> Result<Rows, NoMe
 }
 
 /// The rows of all matrices.
-pub(crate) fn tables_of<const P: u16>(
+pub fn tables_of<const P: u16>(
     alloc: Global,
     matrices: &[Matrix<P>],
 ) -> Result<Vec<Rows>, NoMemory>
@@ -48,7 +48,7 @@ pub(crate) fn tables_of<const P: u16>(
 }
 
 /// The ranks of all matrices.
-pub(crate) fn ranks_of<const P: u16>(
+pub fn ranks_of<const P: u16>(
     alloc: Global,
     field: Field<P>,
     matrices: &[Matrix<P>],
