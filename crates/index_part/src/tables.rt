@@ -33,10 +33,7 @@ pub fn rows_of<const P: u16>(alloc: Global, matrix: &Matrix<P>) -> Result<Rows, 
 }
 
 /// The rows of all matrices.
-pub fn tables_of<const P: u16>(
-    alloc: Global,
-    matrices: &[Matrix<P>],
-) -> Result<Vec<Rows>, NoMemory>
+pub fn tables_of<const P: u16>(alloc: Global, matrices: &[Matrix<P>]) -> Result<Vec<Rows>, NoMemory>
     ensures { IfOk result (λ tables. IsFilled []
         (λ k. AreRowsOf P (nth matrices.now k)) (length matrices.now) tables.items) }
 {
