@@ -1,4 +1,5 @@
--- What decides whether a list of cells is acyclic: reductions that leave no boundary, which every complex has.
+-- What decides whether a list of cells is acyclic: reductions that leave no boundary, which every
+-- complex has.
 use Rattle.std.specs.Prelude.{◌≡◌, ℕ, ◌<◌, ◌≤◌, ◌^◌, ◌⊎◌, List, length, true}
 use Rattle.field_mod.specs.Modular.{IsField}
 use Rattle.elem_cubes.specs.Cells.{Factor}
@@ -39,7 +40,9 @@ ReductionsExist = (p : ℕ) (K : ChainComplex) → IsField p → IsComplex p K �
 
 -- a list of cells, fewer than 2^32, is acyclic or has a hole
 abbrev pub AcyclicOrHole : Type 0
-AcyclicOrHole = (p : ℕ) (cells : List (List Factor)) → IsField p → IsCellList cells → length cells < 2 ^ 32 → IsAcyclic p cells ⊎ SomeHole p cells
+AcyclicOrHole =
+    (p : ℕ) (cells : List (List Factor)) → IsField p → IsCellList cells → length cells < 2 ^ 32
+    → IsAcyclic p cells ⊎ SomeHole p cells
 
 -- two holes of one set have one degree
 abbrev pub HolesHaveOneDegree : Type 0
@@ -48,14 +51,17 @@ HolesHaveOneDegree =
     → 2 ≤ p → IsHole p x k z w → IsHole p x l y v → k ≡ l
 
 -- the value at the cell s, as a list that is acyclic or has a hole
-pub record DecidedValue (p : ℕ) (map : List Naming) (domain : List (List Factor)) (s : List Factor) : Type 0 where
+pub record DecidedValue (p : ℕ) (map : List Naming) (domain : List (List Factor))
+    (s : List Factor) : Type 0 where
   pub value : List (List Factor)
   pub is : IsValueAt map domain s value
   pub decided : IsAcyclic p value ⊎ SomeHole p value
 
--- where the cubes of the domain go into a range of fewer than 2^32 cells, the value at each cell is acyclic or has a hole
+-- where the cubes of the domain go into a range of fewer than 2^32 cells, the value at each cell is
+-- acyclic or has a hole
 abbrev pub ValuesAreDecided : Type 0
 ValuesAreDecided =
     (p : ℕ) (map : List Naming) (domain range : List (List Factor)) (s : List Factor)
-    → IsField p → GoesInto map domain range → length (cells_of range) < 2 ^ 32 → is_cell_of domain s ≡ true
+    → IsField p → GoesInto map domain range → length (cells_of range) < 2 ^ 32
+    → is_cell_of domain s ≡ true
     → DecidedValue p map domain s

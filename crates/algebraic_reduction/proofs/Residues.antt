@@ -1,5 +1,5 @@
 -- Numbers that are kept modulo p.
-use Rattle.std.proofs.Common.{◌≡◌, ℕ, ◌+◌, ◌-◌, ◌*◌, ◌/◌, ◌%◌, ◌^◌, ◌<◌, ◌≤◌, sym, ◌∙◌, arith, List, mod-eq_of_lt}
+use Rattle.std.proofs.Common.{◌≡◌, ℕ, ◌+◌, ◌-◌, ◌*◌, ◌/◌, ◌%◌, ◌^◌, ◌<◌, ◌≤◌, sym, ◌∙◌, arith, List, mod-eq_of_lt, subst}
 use native.Mathlib.Nat.{zero-mod}
 use Rattle.field_mod.specs.Modular.{Same}
 use Rattle.field_mod.proofs.Modular.{same_by, neg_cancel}
@@ -21,3 +21,10 @@ negated p a s pos e =
 -- a number that is kept modulo p
 pub reduced : (p n m : ℕ) → n ≡ m % p → Same p n m
 reduced p n m e = same_by p (m / p) 0 _ _ (omega arith)
+
+-- -1 is its own inverse
+pub unit_square : (p q : ℕ) → 2 ≤ p → q + 1 ≡ p → (q * q) % p ≡ 1
+unit_square p q two e = subst (λ (k : ℕ). (q * q) % k ≡ 1) e ((same_by (q + 1) 1 q (q * q) 1 (omega arith)).same ∙ mod-eq_of_lt one)
+  where
+    one : 1 < q + 1
+    one = omega arith

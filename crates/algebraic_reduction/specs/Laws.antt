@@ -38,7 +38,8 @@ AreApart (s ∷ ss) = IsUnpaired ss s.a × IsUnpaired ss s.b × AreApart ss
 
 -- f is linear modulo p
 abbrev pub IsLinear : ℕ → ((ℕ → ℕ) → ℕ → ℕ) → Type 0
-IsLinear p f = (u v : ℕ) (x y : ℕ → ℕ) (g : ℕ) → Same p (f (λ h. u * x h + v * y h) g) (u * f x g + v * f y g)
+IsLinear p f =
+    (u v : ℕ) (x y : ℕ → ℕ) (g : ℕ) → Same p (f (λ h. u * x h + v * y h) g) (u * f x g + v * f y g)
 
 -- the steps reduce the complex K. What is left is a complex on the generators in no step;
 -- projection, inclusion and homotopy are linear, and maps of numbers modulo p; projection and
@@ -50,27 +51,46 @@ pub record IsReduction (p : ℕ) (K : ChainComplex) (ss : List Step) : Type 0 wh
   pub steps : AreStepsOf p K ss
   pub apart : AreApart ss
   pub left_squares_to_zero : (h g : ℕ) → Same p (left_boundary_of p K ss (left_of p K ss h) g) 0
-  pub left_lowers : (h : ℕ) (k : ℕ) → h < length K.boundaries → slice_index K.degrees h ≡ k + 1 → IsChain p (system K) k (left_of p K ss h)
-  pub left_bottom : (h : ℕ) → h < length K.boundaries → slice_index K.degrees h ≡ 0 → (g : ℕ) → Same p (left_of p K ss h g) 0
-  pub left_on_left : (h g : ℕ) → ¬ IsUnpaired ss g → Same p (left_of p K ss h g) 0 × Same p (left_of p K ss g h) 0
+  pub left_lowers : (h : ℕ) (k : ℕ) → h < length K.boundaries → slice_index K.degrees h ≡ k + 1
+      → IsChain p (system K) k (left_of p K ss h)
+  pub left_bottom : (h : ℕ) → h < length K.boundaries → slice_index K.degrees h ≡ 0 → (g : ℕ)
+      → Same p (left_of p K ss h g) 0
+  pub left_on_left : (h g : ℕ) → ¬ IsUnpaired ss g
+      → Same p (left_of p K ss h g) 0 × Same p (left_of p K ss g h) 0
   pub project_linear : IsLinear p (project_of p K ss)
-  pub project_same : (x y : ℕ → ℕ) → ((g : ℕ) → Same p (x g) (y g)) → (g : ℕ) → Same p (project_of p K ss x g) (project_of p K ss y g)
+  pub project_same : (x y : ℕ → ℕ) → ((g : ℕ) → Same p (x g) (y g)) → (g : ℕ)
+      → Same p (project_of p K ss x g) (project_of p K ss y g)
   pub project_on_left : (x : ℕ → ℕ) → IsOnLeft p ss (project_of p K ss x)
-  pub project_degree : (k : ℕ) (x : ℕ → ℕ) → IsChain p (system K) k x → IsChain p (system K) k (project_of p K ss x)
-  pub project_boundary : (x : ℕ → ℕ) (g : ℕ) → Same p (left_boundary_of p K ss (project_of p K ss x) g) (project_of p K ss (boundary K.boundaries x) g)
+  pub project_degree : (k : ℕ) (x : ℕ → ℕ) → IsChain p (system K) k x
+      → IsChain p (system K) k (project_of p K ss x)
+  pub project_boundary : (x : ℕ → ℕ) (g : ℕ)
+      → Same p (left_boundary_of p K ss (project_of p K ss x) g)
+      (project_of p K ss (boundary K.boundaries x) g)
   pub include_linear : IsLinear p (include_of p K ss)
-  pub include_same : (x y : ℕ → ℕ) → ((g : ℕ) → Same p (x g) (y g)) → (g : ℕ) → Same p (include_of p K ss x g) (include_of p K ss y g)
-  pub include_degree : (k : ℕ) (y : ℕ → ℕ) → IsChain p (system K) k y → IsChain p (system K) k (include_of p K ss y)
-  pub include_boundary : (y : ℕ → ℕ) → IsOnLeft p ss y → (g : ℕ) → Same p (boundary K.boundaries (include_of p K ss y) g) (include_of p K ss (left_boundary_of p K ss y) g)
+  pub include_same : (x y : ℕ → ℕ) → ((g : ℕ) → Same p (x g) (y g)) → (g : ℕ)
+      → Same p (include_of p K ss x g) (include_of p K ss y g)
+  pub include_degree : (k : ℕ) (y : ℕ → ℕ) → IsChain p (system K) k y
+      → IsChain p (system K) k (include_of p K ss y)
+  pub include_boundary : (y : ℕ → ℕ) → IsOnLeft p ss y → (g : ℕ)
+      → Same p (boundary K.boundaries (include_of p K ss y) g)
+      (include_of p K ss (left_boundary_of p K ss y) g)
   pub homotopy_linear : IsLinear p (homotopy_of p K ss)
-  pub homotopy_same : (x y : ℕ → ℕ) → ((g : ℕ) → Same p (x g) (y g)) → (g : ℕ) → Same p (homotopy_of p K ss x g) (homotopy_of p K ss y g)
-  pub homotopy_degree : (k : ℕ) (x : ℕ → ℕ) → IsChain p (system K) k x → IsChain p (system K) (k + 1) (homotopy_of p K ss x)
-  pub round_trip : (y : ℕ → ℕ) → IsOnLeft p ss y → (g : ℕ) → Same p (project_of p K ss (include_of p K ss y) g) (y g)
-  pub identity : (x : ℕ → ℕ) (g : ℕ) → Same p (include_of p K ss (project_of p K ss x) g + (boundary K.boundaries (homotopy_of p K ss x) g + homotopy_of p K ss (boundary K.boundaries x) g)) (x g)
+  pub homotopy_same : (x y : ℕ → ℕ) → ((g : ℕ) → Same p (x g) (y g)) → (g : ℕ)
+      → Same p (homotopy_of p K ss x g) (homotopy_of p K ss y g)
+  pub homotopy_degree : (k : ℕ) (x : ℕ → ℕ) → IsChain p (system K) k x
+      → IsChain p (system K) (k + 1) (homotopy_of p K ss x)
+  pub round_trip : (y : ℕ → ℕ) → IsOnLeft p ss y → (g : ℕ)
+      → Same p (project_of p K ss (include_of p K ss y) g) (y g)
+  pub identity : (x : ℕ → ℕ) (g : ℕ) → Same p
+      (include_of p K ss (project_of p K ss x) g
+      + (boundary K.boundaries (homotopy_of p K ss x) g
+      + homotopy_of p K ss (boundary K.boundaries x) g)) (x g)
 
 -- a list of steps on a complex reduces it
 abbrev pub StepsAreReductions : Type 0
-StepsAreReductions = (p : ℕ) (K : ChainComplex) (ss : List Step) → 2 ≤ p → IsComplex p K → AreStepsOf p K ss → IsReduction p K ss
+StepsAreReductions =
+    (p : ℕ) (K : ChainComplex) (ss : List Step) → 2 ≤ p → IsComplex p K → AreStepsOf p K ss
+    → IsReduction p K ss
 
 -- no boundary is left
 abbrev pub NothingLeft : ℕ → ChainComplex → List Step → Type 0
@@ -82,7 +102,8 @@ pub record IsLeft (K : ChainComplex) (k : ℕ) (ss : List Step) (m : ℕ) (at : 
   pub of_degree : (i : ℕ) → i < m → slice_index K.degrees (at i) ≡ k
   pub unpaired : (i : ℕ) → i < m → IsUnpaired ss (at i)
   pub once : (i j : ℕ) → i < m → j < m → at i ≡ at j → i ≡ j
-  pub all : (g : ℕ) → g < length K.boundaries → slice_index K.degrees g ≡ k → IsUnpaired ss g → (i : ℕ) × (i < m) × (at i ≡ g)
+  pub all : (g : ℕ) → g < length K.boundaries → slice_index K.degrees g ≡ k → IsUnpaired ss g
+      → (i : ℕ) × (i < m) × (at i ≡ g)
 
 -- where no boundary is left, the inclusions of the generators of degree k that are left are a basis
 -- in degree k

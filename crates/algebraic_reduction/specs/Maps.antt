@@ -23,15 +23,18 @@ weight_at p D ks x i = inverse_at ks i * projected p D ks x i (a_at ks i)
 
 -- x is the chain start after the first done steps, but for what stands at their b, and w has for
 -- each of them what its homotopy gives its b
-pub record Descent (p : ℕ) (D : ℕ → ℕ → ℕ) (ks : List KeptStep) (start x w : ℕ → ℕ) (done : ℕ) : Type 0 where
+pub record Descent (p : ℕ) (D : ℕ → ℕ → ℕ) (ks : List KeptStep) (start x w : ℕ → ℕ)
+    (done : ℕ) : Type 0 where
   pub within : done ≤ length ks
-  pub near : (g : ℕ) → IsNoB (steps_of (take done ks)) g → Same p (x g) (projected p D ks start done g)
+  pub near : (g : ℕ) → IsNoB (steps_of (take done ks)) g
+      → Same p (x g) (projected p D ks start done g)
   pub weights : (i : ℕ) → i < done → Same p (w i) (weight_at p D ks start i)
   pub ahead : (i : ℕ) → done ≤ i → w i ≡ 0
 
 -- all steps are made: raised has what the homotopies of the single steps give, and left is the end
 -- of the descent at the generators in no step
-pub record HasDescended (p : ℕ) (D : ℕ → ℕ → ℕ) (places : List (Option ℕ)) (ks : List KeptStep) (start : ℕ → ℕ) (left raised : List (ℕ × ℕ)) : Type 0 where
+pub record HasDescended (p : ℕ) (D : ℕ → ℕ → ℕ) (places : List (Option ℕ)) (ks : List KeptStep)
+    (start : ℕ → ℕ) (left raised : List (ℕ × ℕ)) : Type 0 where
   pub chain : ℕ → ℕ
   pub descent : Descent p D ks start chain (coefficient raised) (length ks)
   pub left_at : (g : ℕ) → place_at places g ≡ None → Same p (coefficient left g) (chain g)
@@ -50,7 +53,8 @@ rest_at n e y i = total n (λ g. if g == e.pivot i then 0 else e.at i g * y g)
 
 -- y keeps equation i, where y0 are the values at the start
 abbrev pub IsSettled : ℕ → ℕ → Equations → (ℕ → ℕ) → (ℕ → ℕ) → ℕ → Type 0
-IsSettled p n e y0 y i = Same p (y (e.pivot i)) (y0 (e.pivot i) + minus p (e.inverse i * rest_at n e y i))
+IsSettled p n e y0 y i =
+    Same p (y (e.pivot i)) (y0 (e.pivot i) + minus p (e.inverse i * rest_at n e y i))
 
 -- the rows, with the a as pivots
 abbrev pub rows : List KeptStep → Equations

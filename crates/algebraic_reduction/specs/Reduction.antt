@@ -44,7 +44,10 @@ homotopy s x g = if g == s.b then s.inverse * x s.a else 0
 
 -- the boundary that the step leaves: D c - inverse * <D c, a> * D b, with nothing at a and b
 abbrev pub left : ℕ → (ℕ → ℕ → ℕ) → Step → ℕ → ℕ → ℕ
-left p D s c g = if g == s.b then 0 else (if c == s.b then 0 else (if c == s.a then 0 else (D c g + minus p (s.inverse * D c s.a * D s.b g))))
+left p D s c g =
+    if g == s.b then 0 else
+    (if c == s.b then 0 else
+    (if c == s.a then 0 else (D c g + minus p (s.inverse * D c s.a * D s.b g))))
 
 -- ---- a list of steps
 
@@ -69,7 +72,8 @@ include_all p n D (s ∷ ss) y = include p n D s (include_all p n (left p D s) s
 -- inclusion
 abbrev pub homotopy_all : ℕ → ℕ → (ℕ → ℕ → ℕ) → List Step → (ℕ → ℕ) → ℕ → ℕ
 homotopy_all p n D [] x g = 0
-homotopy_all p n D (s ∷ ss) x g = homotopy s x g + include p n D s (homotopy_all p n (left p D s) ss (project p D s x)) g
+homotopy_all p n D (s ∷ ss) x g =
+    homotopy s x g + include p n D s (homotopy_all p n (left p D s) ss (project p D s x)) g
 
 -- g is in no step
 abbrev pub IsUnpaired : List Step → ℕ → Type 0

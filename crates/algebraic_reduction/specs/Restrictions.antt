@@ -9,7 +9,9 @@ use Rattle.algebraic_reduction.specs.Laws.{AreStepsOf, left_of}
 
 -- the steps leave each boundary as it was, among the generators in no step
 abbrev pub LeaveRestrictions : ℕ → ChainComplex → List Step → Type 0
-LeaveRestrictions p K ss = (h g : ℕ) → IsUnpaired ss h → IsUnpaired ss g → Same p (left_of p K ss h g) (incidence K.boundaries h g)
+LeaveRestrictions p K ss =
+    (h g : ℕ) → IsUnpaired ss h → IsUnpaired ss g
+    → Same p (left_of p K ss h g) (incidence K.boundaries h g)
 
 -- the step is by a free pair: of the generators in no step of ss, b alone has a in its boundary
 pub record IsFreeStep (p : ℕ) (K : ChainComplex) (ss : List Step) (s : Step) : Type 0 where
@@ -38,7 +40,8 @@ IsOnPart p part z = (g : ℕ) → part g ≡ false → Same p (z g) 0
 -- generators of these degrees
 abbrev pub IsAcyclicPart : ℕ → ℕ → (ℕ → ℕ) → (ℕ → ℕ → ℕ) → (ℕ → Bool) → Type 0
 IsAcyclicPart p n degree D part =
-    (k : ℕ) (z : ℕ → ℕ) → IsOnPart p part z → ((g : ℕ) → degree g ≢ k → Same p (z g) 0) → ((g : ℕ) → Same p (boundary_by n D z g) 0)
+    (k : ℕ) (z : ℕ → ℕ) → IsOnPart p part z → ((g : ℕ) → degree g ≢ k → Same p (z g) 0)
+    → ((g : ℕ) → Same p (boundary_by n D z g) 0)
     → (c : ℕ → ℕ) × IsOnPart p part c × ((g : ℕ) → Same p (z g) (boundary_by n D c g))
 
 -- ---- laws
@@ -64,7 +67,9 @@ StepsWithinLeaveRestrictions =
 abbrev pub AcyclicPartsAreTaken : Type 0
 AcyclicPartsAreTaken =
     (p : ℕ) (K : ChainComplex) (ss more : List Step) (part : ℕ → Bool)
-    → 2 ≤ p → IsComplex p K → AreStepsOf p K (ss ++ more) → IsClosedPart p (left_of p K ss) part → AreWithin part more
-    → ((g : ℕ) → part g ≡ true → g < length K.boundaries) → IsAcyclicPart p (length K.boundaries) (slice_index K.degrees) (left_of p K ss) part
+    → 2 ≤ p → IsComplex p K → AreStepsOf p K (ss ++ more) → IsClosedPart p (left_of p K ss) part
+    → AreWithin part more
+    → ((g : ℕ) → part g ≡ true → g < length K.boundaries)
+    → IsAcyclicPart p (length K.boundaries) (slice_index K.degrees) (left_of p K ss) part
     → ((h g : ℕ) → part h ≡ true → part g ≡ true → Same p (left_of p K (ss ++ more) h g) 0)
     → (g : ℕ) → part g ≡ true → ¬ IsUnpaired (ss ++ more) g

@@ -24,19 +24,23 @@ abbrev pub place_at : List (Option ℕ) → ℕ → Option ℕ
 place_at places g = slice_index_or places g None
 
 -- the step of each generator, and the kept steps, are those of a reduction of K
-pub record IsState (p : ℕ) (K : ChainComplex) (places : List (Option ℕ)) (ks : List KeptStep) : Type 0 where
+pub record IsState (p : ℕ) (K : ChainComplex) (places : List (Option ℕ))
+    (ks : List KeptStep) : Type 0 where
   pub complex : IsComplex p K
   pub places_count : length places ≡ length K.boundaries
   pub steps : AreStepsOf p K (steps_of ks)
   pub kept : AreKept p (incidence K.boundaries) ks
-  pub placed : (i : ℕ) → i < length ks → (place_at places (a_at ks i) ≡ Some i) × (place_at places (b_at ks i) ≡ Some i)
-  pub in_step : (g i : ℕ) → place_at places g ≡ Some i → (i < length ks) × (IsUnpaired (steps_of ks) g → ⊥)
+  pub placed : (i : ℕ) → i < length ks → (place_at places (a_at ks i) ≡ Some i) ×
+      (place_at places (b_at ks i) ≡ Some i)
+  pub in_step : (g i : ℕ) → place_at places g ≡ Some i
+      → (i < length ks) × (IsUnpaired (steps_of ks) g → ⊥)
   pub in_none : (g : ℕ) → place_at places g ≡ None → IsUnpaired (steps_of ks) g
 
 -- the list at each of the n generators names the b of all steps in whose row it stands
 pub record AreNames (p n : ℕ) (ks : List KeptStep) (lists : List (List ℕ)) : Type 0 where
   pub count : length lists ≡ n
-  pub named : (i g : ℕ) → i < length ks → g < n → NonZero p (row_at ks i g) → Names lists g (b_at ks i)
+  pub named : (i g : ℕ) → i < length ks → g < n → NonZero p (row_at ks i g)
+      → Names lists g (b_at ks i)
 
 -- a later state: the complex is the same, and the steps are the old ones and further ones
 pub record GoesOn (K K' : ChainComplex) (ks ks' : List KeptStep) : Type 0 where
@@ -44,6 +48,7 @@ pub record GoesOn (K K' : ChainComplex) (ks ks' : List KeptStep) : Type 0 where
   pub further : AreFurther (steps_of ks) (steps_of ks')
 
 -- what a log holds: its index is that of the rows, where there is one at all
-pub record IsLog (p : ℕ) (K : ChainComplex) (places : List (Option ℕ)) (ks : List KeptStep) (lists : List (List ℕ)) : Type 0 where
+pub record IsLog (p : ℕ) (K : ChainComplex) (places : List (Option ℕ)) (ks : List KeptStep)
+    (lists : List (List ℕ)) : Type 0 where
   pub state : IsState p K places ks
   pub names : length lists ≡ length K.boundaries → AreNames p (length K.boundaries) ks lists

@@ -1,5 +1,5 @@
 //! The fields of a log, and one step more on them.
-ghost use Rattle.std.specs.Prelude.{◌≡◌, ℕ, [], length, OnOk, IfOk, None};
+ghost use Rattle.std.specs.Prelude.{◌≡◌, ℕ, ◌<◌, ◌*◌, ◌%◌, [], length, OnOk, IfOk, None};
 ghost use Rattle.field_mod.specs.Modular.{NonZero};
 ghost use Rattle.algebraic_reduction.specs.Kept.{steps_of};
 ghost use Rattle.algebraic_reduction.specs.LogWords.{IsOneMore, Gives, left_at};
@@ -33,16 +33,17 @@ fn no_places(alloc: Global, count: u32) -> Result<Vec<Place>, AllocError>
 }
 
 /// The fields of a log of the complex without steps. The complex is moved in; nothing of it is
-/// copied.
+/// copied. There is room for as many steps as there can be, so that the list of them never moves.
 pub fn start_parts<const P: u16>(alloc: Global, complex: Complex<P>) -> Result<Parts<P>, AllocError>
     ensures state { IfOk result (λ p. IsState P p.complex p.places.items p.steps.items) }
     ensures complex { IfOk result (λ p. p.complex ≡ complex.entry) }
     ensures steps { IfOk result (λ p. p.steps.items ≡ []) }
 {
     let places = no_places(alloc, complex.len())?;
+    let steps = Vec::with_capacity(alloc, complex.len() as usize / 2)?;
     Ok(Parts {
         places,
-        steps: Vec::new(alloc),
+        steps,
         complex,
     })
 }
@@ -56,6 +57,21 @@ pub fn place_of(places: &[Place], generator: u32) -> Option<u32>
         places[place].step()
     } else {
         None
+    }
+}
+
+/// The inverse of a number modulo `P` other than 0. That of -1, which stands in rows as often as 1,
+/// is found without a search.
+fn inverse_of<const P: u16>(field: Field<P>, number: u16) -> u16
+    requires nonzero { 0 < number }
+    requires reduced { number < P }
+    ensures below { result < P }
+    ensures value { (result * number) % P ≡ 1 }
+{
+    if number + 1 == P {
+        number
+    } else {
+        field.inv(number)
     }
 }
 
@@ -79,7 +95,7 @@ pub fn take_row<const P: u16>(
     ensures goes { OnOk result (Goes P parts.old parts.new) }
     ensures taken { OnOk result (IsDone P parts.new b) }
 {
-    let inverse = field.inv(row.coefficient(a));
+    let inverse = inverse_of(field, row.coefficient(a));
     let place = parts.steps.len() as u32;
     parts.steps.push(Kept::new(a, b, inverse, row))?;
     parts.places[a as usize] = Place::of(place);

@@ -124,7 +124,8 @@ judged_by tools.Cubnbhd r = judged (sets.neighbours_job (x_of r)) (of_sets.neigh
 judged_by tools.Cubcells r = judged (sets.cells_job (x_of r)) (of_sets.cells_once (x_of r))
 judged_by tools.Homchain r = judged_chain (chain_of r)
 judged_by tools.Gen r = judged (gens.holes_job (holes_of r)) (of_gens.holes_once (holes_of r))
-judged_by tools.Chkmvmap r = judged (maps.values_job (values_of r)) (of_maps.values_once (values_of r))
+judged_by tools.Chkmvmap r =
+    judged (maps.values_job (values_of r)) (of_maps.values_once (values_of r))
 
 abbrev pub job_by : ToolName → Request → Job
 job_by tool r = (judged_by tool r).job

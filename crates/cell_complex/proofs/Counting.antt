@@ -1,12 +1,12 @@
 -- The relative cells of a pair: which they are, how many, and that they are sorted cells
-use Rattle.std.proofs.Common.{◌≡◌, ℕ, suc, ◌+◌, ◌<◌, ◌≤◌, refl, sym, ap, ◌∙◌, subst, arith, ⊎_elim, List, [], ◌∷◌, ◌++◌, length, filter, Bool, true, false, cond, ◌&&◌, ◌||◌, ◌==◌, length-append}
+use Rattle.std.proofs.Common.{◌≡◌, ℕ, ◌+◌, ◌<◌, ◌≤◌, refl, sym, ap, ◌∙◌, subst, arith, ⊎_elim, List, [], ◌∷◌, ◌++◌, length, filter, Bool, true, false, cond, ◌&&◌, ◌||◌, ◌==◌, length-append}
 use Rattle.std.specs.Prelude.{not}
 use Rattle.std.specs.List.{list_any, list_all, flat_map, IsDistinct, AllByRecursion}
 use Rattle.std.specs.List.Sorted.{IsStrictlySortedBy}
 use Rattle.std.specs.Set.{unique_keys}
 use Rattle.std.specs.Ordering.{is_eq}
 use Rattle.std.specs.declared.cmp.Ordering.TheVariants.{Less}
-use Rattle.std.proofs.lemmas.Bool.{true≢false, cases_Bool, cond_both, and_parts, eqb-true}
+use Rattle.std.proofs.lemmas.Bool.{true≢false, cases_Bool, and_parts, eqb-true}
 use Rattle.std.proofs.lemmas.List.Folds.{list_any-append}
 use Rattle.std.proofs.lemmas.List.Kept.{IsStrictlySortedBy-filter}
 use Rattle.std.proofs.lemmas.Map.Made.{length-from_keys, length-le_from_is_member}
@@ -154,17 +154,7 @@ module _ (x a faces subset : List (List Factor)) (in_faces : faces ≡ cells_of 
       apart_from true false e = refl
       apart_from false v e = absurd (true≢false (sym e))
 
--- ---- the relative cells are sorted cells, and a listing
-
-all_filtered : {A : Type 0} (p test : A → Bool) (xs : List A) → list_all p xs ≡ true → list_all p (filter test xs) ≡ true
-all_filtered p test [] h = refl
-all_filtered p test (x ∷ xs) h =
-    let both = and_parts (p x) (list_all p xs) h in
-    let rest = all_filtered p test xs both.1 in
-    ⊎_elim
-    (λ e. ap (λ b. list_all p (cond b (x ∷ filter test xs) (filter test xs))) e ∙ ap (λ b. b && list_all p (filter test xs)) both.0 ∙ rest)
-    (λ e. ap (λ b. list_all p (cond b (x ∷ filter test xs) (filter test xs))) e ∙ rest)
-    (cases_Bool (test x))
+-- ---- the members of a set are sorted cells, and the relative cells a listing
 
 all_right : {A : Type 0} (p r : A → Bool) (xs : List A) → list_all (λ x. p x && r x) xs ≡ true → list_all r xs ≡ true
 all_right p r [] h = refl
@@ -173,23 +163,14 @@ all_right p r (x ∷ xs) h =
     let here = and_parts (p x) (r x) both.0 in
     ap (λ b. b && list_all r xs) here.1 ∙ all_right p r xs both.1
 
-length_filtered : {A : Type 0} (test : A → Bool) (xs : List A) → length (filter test xs) ≤ length xs
-length_filtered test [] = omega arith
-length_filtered test (x ∷ xs) =
-    let rest = length_filtered test xs in
-    cond_both (test x) (x ∷ filter test xs) (filter test xs) (λ ys. length ys ≤ suc (length xs)) (λ _. omega arith) (λ _. omega arith)
-
-pub sorted_without : (set : Members) (others : List (List Factor)) → IsCubeSet set → IsSortedCells (without set.cells others)
-sorted_without set others is =
-    let test : List Factor → Bool = λ q. not (has cell_cmp others q) in
-    let kept : List (List Factor) = without set.cells others in
-    let members : list_all (is_member set.dimension) kept ≡ true = all_filtered (is_member set.dimension) test set.cells is.alike in
-    let long = λ (i : ℕ) (l : i < length kept). eqb-true (length (cell_at kept i)) set.dimension (and_parts (length (cell_at kept i) == set.dimension) (list_all is_file_factor (cell_at kept i)) (all_at (is_member set.dimension) kept i [] members l)).0 in
+pub sorted_of_set : (set : Members) → IsCubeSet set → IsSortedCells set.cells
+sorted_of_set set is =
+    let long = λ (i : ℕ) (l : i < length set.cells). eqb-true (length (cell_at set.cells i)) set.dimension (and_parts (length (cell_at set.cells i) == set.dimension) (list_all is_file_factor (cell_at set.cells i)) (all_at (is_member set.dimension) set.cells i [] is.alike l)).0 in
     record {
-      sorted = IsStrictlySortedBy-filter cell_cmp test set.cells is.sorted;
+      sorted = is.sorted;
       alike = λ i j li lj. long i li ∙ sym (long j lj);
-      in_range = all_right (λ q. length q == set.dimension) (list_all is_file_factor) kept members;
-      few = omega (arith, length_filtered test set.cells, is.few);
+      in_range = all_right (λ q. length q == set.dimension) (list_all is_file_factor) set.cells is.alike;
+      few = is.few;
     }
 
 pub listing_of : (test : List Factor → Bool) (cells : List (List Factor)) → IsSortedCells cells → ((q : List Factor) → has_cell cells q ≡ test q) → IsListing test cells

@@ -7,7 +7,6 @@ pub mod ByCell
 pub mod Facets
 pub mod Sorting
 pub mod Collecting
-pub mod Apart
 pub mod Counting
 pub mod Drawing
 pub mod Alike

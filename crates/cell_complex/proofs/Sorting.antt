@@ -1,23 +1,20 @@
--- Sorted lists of cells: the cells are apart, and a search of the list tells the number of a cell
-use Rattle.std.proofs.Common.{◌≡◌, ℕ, ◌<◌, sym, ap, ◌∙◌, arith, ⊎_elim, subst, List, [], length, false, Result, Some}
+-- Sorted lists of cells: the cells are apart, and the place of a cell is its number
+use Rattle.std.proofs.Common.{Option, None, IfSome, ◌≡◌, ℕ, ◌<◌, sym, ap, ◌∙◌, arith, ⊎_elim, List, [], length, Some}
 use Rattle.std.specs.Prelude.{slice_get}
-use Rattle.std.specs.List.{HoldsAt, Contains}
-use Rattle.std.specs.List.Sorted.{IsStrictlySortedBy, IsSearchInRange, IsBinarySearchResult}
-use Rattle.std.specs.Result.{is_ok}
+use Rattle.std.specs.List.{Contains}
+use Rattle.std.specs.List.Sorted.{IsStrictlySortedBy}
 use Rattle.std.specs.Cmp.{tied_itself}
 use Rattle.std.specs.declared.cmp.Ordering.TheVariants.{Less, Equal}
 use Rattle.std.proofs.lemmas.Bool.{true≢false, cases_lt}
-use Rattle.std.proofs.lemmas.List.{get_or_default}
 use Rattle.std.proofs.lemmas.Map.Keys.{Less-from_sorted}
 use Rattle.std.proofs.lemmas.List.Sums.{fails_before_first, position_or_len_is}
-use Rattle.std.proofs.lemmas.Option.{slice_get-get_or}
+use Rattle.std.proofs.lemmas.Option.{slice_get_within, get_or_from_slice_get}
 use Rattle.elem_cubes.specs.Cells.{Factor, same_cell}
 use Rattle.elem_cubes.specs.Order.{cell_cmp}
-use Rattle.elem_cubes.specs.OrderLemmas.{cell_cmp_total, cell_refl, cell_cases, tied_cells}
+use Rattle.elem_cubes.specs.OrderLemmas.{cell_cmp_total, cell_refl, cell_cases}
 use Rattle.elem_cubes.specs.Laws.{cell_at}
-use Rattle.cube_sets.proofs.Sorting.{search_has}
+use Rattle.cell_complex.specs.Sorted.{IsSortedCells}
 use Rattle.cell_complex.specs.Numbering.{number_of}
-use Rattle.cell_complex.proofs.Deciding.{has_is, has_from}
 
 differ : (q r : List Factor) → cell_cmp q r ≡ Less → q ≡ r → ⊥
 differ q r less e =
@@ -39,25 +36,14 @@ number_below cells q w = ⊎_elim (λ l. l)
     (λ past. absurd (true≢false (sym (ap (same_cell q) (w.2) ∙ cell_refl q) ∙ fails_before_first (same_cell q) cells w.0 q (omega (arith, w.1, past)))))
     (cases_lt (number_of cells q) (length cells))
 
--- a search finds each cell of the list, and tells the number of what it finds
-pub missing : (cells kept seen : List (List Factor)) (q : List Factor) (r : Result ℕ ℕ) → seen ≡ kept → kept ≡ cells → IsStrictlySortedBy cell_cmp kept → IsSearchInRange r (length seen) → IsBinarySearchResult (λ s. cell_cmp s q) seen r → is_ok r ≡ false → Contains cells q → ⊥
-missing cells kept seen q r read viewed sorted within is none w =
-    let sorted' : IsStrictlySortedBy cell_cmp seen = subst (IsStrictlySortedBy cell_cmp) (sym read) sorted in
-    let w' : Contains seen q = subst (λ (l : List (List Factor)). Contains l q) (sym (read ∙ viewed)) w in
-    absurd (true≢false (sym (has_is seen q ∙ has_from seen q w') ∙ sym (search_has cell_cmp cell_cmp_total seen q r sorted' within is) ∙ none))
-
-pub at_found : (cells : List (List Factor)) (q : List Factor) (i : ℕ) → HoldsAt (λ s. cell_cmp s q ≡ Equal) cells i → cell_at cells i ≡ q
-at_found cells q i is = tied_cells (cell_at cells i) q (is [])
-
-pub present : (kept cells : List (List Factor)) (q : List Factor) (i : ℕ) → kept ≡ cells → IsStrictlySortedBy cell_cmp kept → i < length cells → cell_at cells i ≡ q → i ≡ number_of cells q
-present kept cells q i viewed kept_sorted within at =
-    let sorted : IsStrictlySortedBy cell_cmp cells = subst (IsStrictlySortedBy cell_cmp) viewed kept_sorted in
+-- the place of a cell is its number
+present : (cells : List (List Factor)) (q : List Factor) (i : ℕ) → IsStrictlySortedBy cell_cmp cells → i < length cells → cell_at cells i ≡ q → i ≡ number_of cells q
+present cells q i sorted within at =
     sym (position_or_len_is (same_cell q) cells i [] (omega (arith, within))
     (λ k below. ⊎_elim (λ e. absurd (let t : i ≡ k = apart cells sorted i k within (omega (arith, within)) (at ∙ e) in omega arith)) (λ f. f) (cell_cases q (cell_at cells k)))
     (λ _. ap (same_cell q) at ∙ cell_refl q))
 
-pub found : (cells : List (List Factor)) (q : List Factor) (i : ℕ) → i < length cells → cell_at cells i ≡ q → Contains cells q
-found cells q i within at = (i, within, get_or_default cells i q [] within ∙ at)
-
-pub placed : (cells : List (List Factor)) (q : List Factor) (i : ℕ) → i < length cells → cell_at cells i ≡ q → slice_get cells i ≡ Some q
-placed cells q i within at = slice_get-get_or cells i [] within ∙ ap Some at
+pub told : (kept cells : List (List Factor)) (q : List Factor) (r : Option ℕ) → kept ≡ cells → IsSortedCells kept → IfSome r (λ n. slice_get kept n ≡ Some q) → IfSome r (λ n. n ≡ number_of cells q)
+told kept cells q None viewed s at = tt
+told kept cells q (Some n) viewed s at =
+    present kept q n s.sorted (slice_get_within kept n q at) (get_or_from_slice_get kept n q [] at) ∙ ap (λ (l : List (List Factor)). number_of l q) viewed

@@ -1,6 +1,6 @@
--- The relative complex of two sets of cells, over the cells themselves: which cells belong to it, and the boundary of a
--- chain, which is a function that gives each cell its coefficient. (Kaczynski, Mischaikow, Mrozek: Computational Homology,
--- Springer 2004, sections 2.2 and 9.1)
+-- The relative complex of two sets of cells, over the cells themselves: which cells belong to it,
+-- and the boundary of a chain, which is a function that gives each cell its coefficient.
+-- (Kaczynski, Mischaikow, Mrozek: Computational Homology, Springer 2004, sections 2.2 and 9.1)
 use Rattle.std.specs.Prelude.{◌≡◌, ℕ, Bool, true, not, ◌&&◌, List, if◌then◌else◌}
 use Rattle.std.specs.List.{Contains}
 use Rattle.field_mod.specs.Modular.{Same}
@@ -18,8 +18,9 @@ is_relative x a q = is_cell_of x q && not (is_cell_of a q)
 abbrev pub restriction_to : (List Factor → Bool) → (List Factor → ℕ) → List Factor → ℕ
 restriction_to belongs c q = if belongs q then c q else 0
 
--- the complex on some cells: the degree of a cell is its dimension, and the boundary of a chain at a cell is the cubical
--- boundary, a sum over those cells of the complex that have this one as a facet
+-- the complex on some cells: the degree of a cell is its dimension, and the boundary of a chain at
+-- a cell is the cubical boundary, a sum over those cells of the complex that have this one as a
+-- facet
 abbrev pub complex_on : ℕ → (List Factor → Bool) → System (List Factor)
 complex_on p belongs = record {
   on = belongs;
@@ -40,4 +41,5 @@ IsClosedList cells = (q r : List Factor) → IsFace q r → Contains cells q →
 
 -- the boundary of each boundary is 0
 abbrev pub SquaresToZero : ℕ → System (List Factor) → Type 0
-SquaresToZero p K = (c : List Factor → ℕ) (q : List Factor) → K.on q ≡ true → Same p (K.boundary (K.boundary c) q) 0
+SquaresToZero p K =
+    (c : List Factor → ℕ) (q : List Factor) → K.on q ≡ true → Same p (K.boundary (K.boundary c) q) 0

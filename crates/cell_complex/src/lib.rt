@@ -7,7 +7,6 @@ mod fault;
 mod laws;
 mod numbered;
 mod pairs;
-mod starts;
 
 pub use cell_list::CellList;
 pub use complex::complex_of;

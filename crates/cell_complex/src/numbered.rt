@@ -5,21 +5,17 @@ ghost use Rattle.elem_cubes.specs.Laws.{cell_at};
 ghost use Rattle.cell_complex.specs.Sorted.{IsSortedCells};
 ghost use Rattle.cell_complex.specs.Numbering.{number_of};
 
-use crate::starts::Starts;
+use cell_points::Points;
 use elem_cubes::Cell;
 use std::alloc::{AllocError, Global};
 use std::marker::Model;
-
-// How many cells are looked at one by one before a search of all.
-const FEW: usize = 16;
 
 /// Distinct cells in the order of cells, seen as their list: fewer than 2^32, with as many factors
 /// as each other and within the range of the files. The number of a cell is its place, counted from
 /// 0.
 #[derive(Drop)]
 pub struct Numbered {
-    cells: Vec<Cell>,
-    starts: Starts,
+    points: Points,
 }
 
 impl Model for Numbered {
@@ -29,9 +25,9 @@ impl Model for Numbered {
 
     ghost Value = { List (List Factor) };
 
-    ghost view = { λ s. s.cells.items };
+    ghost view = { λ s. s.points };
 
-    ghost invariant = { λ s. IsSortedCells s.cells.items };
+    ghost invariant = { λ s. IsSortedCells s.points };
 }
 
 impl Numbered {
@@ -40,17 +36,17 @@ impl Numbered {
         requires { IsSortedCells cells.now }
         ensures { IfOk result (λ numbered. numbered ≡ cells.now) }
     {
-        let kept = Vec::from_slice(alloc, cells)?;
-        Numbered::of_list(alloc, kept)
+        let points = Points::of_sorted(alloc, cells)?;
+        Ok(Numbered::of_points(points))
     }
 
-    // The same, of a list that is moved in.
-    pub(crate) fn of_list(alloc: Global, cells: Vec<Cell>) -> Result<Numbered, AllocError>
-        requires { IsSortedCells cells.items }
-        ensures { IfOk result (λ numbered. numbered ≡ cells.items) }
+    // Numbers cells that are kept by points already.
+    pub(crate) fn of_points(points: Points) -> Numbered
+        ensures { result ≡ points }
     {
-        let starts = Starts::of(alloc, &cells)?;
-        Ok(Numbered { cells, starts })
+        // Its clauses say that the cells are sorted.
+        let _count = points.len();
+        Numbered { points }
     }
 
     /// How many cells there are.
@@ -58,14 +54,14 @@ impl Numbered {
         ensures count { result ≡ length self.now }
         ensures sorted { IsSortedCells self.now }
     {
-        self.cells.len() as u32
+        self.points.len()
     }
 
     /// Whether there are none.
     pub fn is_empty(&self) -> bool
         ensures empty { IsTrue result ↔ (self.now ≡ []) }
     {
-        self.cells.is_empty()
+        self.points.is_empty()
     }
 
     /// The cell of a number below `len`.
@@ -73,15 +69,16 @@ impl Numbered {
         requires { number < length self.now }
         ensures { result ≡ cell_at self.now number }
     {
-        self.cells[number as usize]
+        self.points.cell(number)
     }
 
-    /// The cells in order.
-    pub fn cells(&self) -> &[Cell]
-        ensures value { result.now ≡ self.now }
-        ensures sorted { IsSortedCells self.now }
+    /// The same, found sooner where the cell that was told with this `near` before is the one of
+    /// this number or of the number before it; at first `near` is 0.
+    pub fn cell_near(&self, number: u32, near: &mut u32) -> Cell
+        requires { number < length self.now }
+        ensures { result ≡ cell_at self.now number }
     {
-        &self.cells
+        self.points.cell_near(number, near)
     }
 
     /// The number of a cell, or `None` where it is not there.
@@ -91,56 +88,17 @@ impl Numbered {
         ensures number { IfSome result (λ number. number ≡ number_of self.now cell.now) }
         ensures sorted { IsSortedCells self.now }
     {
-        match place_from(&self.cells, cell, self.starts.place_near(cell)) {
-            Some(place) => Some(place as u32),
-            None => self.searched(cell),
-        }
+        self.points.number(cell)
     }
 
-    // The same, by a search of all cells.
-    fn searched(&self, cell: &Cell) -> Option<u32>
+    /// The same, found sooner where the cell stands at or soon behind the lower corner of the one
+    /// that was found with this `near` before; at first `near` is 0.
+    pub fn number_near(&self, cell: &Cell, near: &mut u32) -> Option<u32>
         ensures found { IsSome result ↔ Contains self.now cell.now }
         ensures place { IfSome result (λ number. slice_get self.now number ≡ Some cell.now) }
         ensures number { IfSome result (λ number. number ≡ number_of self.now cell.now) }
         ensures sorted { IsSortedCells self.now }
     {
-        let Ok(place) = self.cells.binary_search(cell) else {
-            return None;
-        };
-        Some(place as u32)
+        self.points.number_near(cell, near)
     }
-
-    // The same, found sooner where the cell is one of the few from a place on.
-    pub(crate) fn number_near(&self, cell: &Cell, near: u32) -> Option<u32>
-        ensures found { IsSome result ↔ Contains self.now cell.now }
-        ensures place { IfSome result (λ number. slice_get self.now number ≡ Some cell.now) }
-        ensures sorted { IsSortedCells self.now }
-    {
-        match place_from(&self.cells, cell, near) {
-            Some(place) => Some(place as u32),
-            None => self.number(cell),
-        }
-    }
-}
-
-// The place of a cell, where it is one of the few from a place on.
-fn place_from(cells: &[Cell], cell: &Cell, near: u32) -> Option<usize>
-    ensures { IfSome result (λ place. slice_get cells.now place ≡ Some cell.now) }
-{
-    let first = near as usize;
-    let end = (first + FEW).min(cells.len());
-    for place in first..end {
-        if is_same(&cells[place], cell) {
-            return Some(place);
-        }
-    }
-    None
-}
-
-// Whether two cells are one. Most that are not differ in their axes, which are seen in one byte.
-#[tactic(auto, using(crate::proofs::Deciding::cell_true))]
-fn is_same(cell: &Cell, other: &Cell) -> bool
-    ensures { IsTrue result → cell.now ≡ other.now }
-{
-    cell.axes() == other.axes() && *cell == *other
 }

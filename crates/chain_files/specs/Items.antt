@@ -6,7 +6,8 @@ use Rattle.chain_files.specs.Numbers.{most_terms, chain_word, complex_word, max_
 
 -- How a chain file begins: `chain complex max dimension N`.
 abbrev pub heading : ℤ → List Lexeme → List Lexeme
-heading top rest = word chain_word ∷ word complex_word ∷ word max_word ∷ word dimension_word ∷ number top ∷ rest
+heading top rest =
+    word chain_word ∷ word complex_word ∷ word max_word ∷ word dimension_word ∷ number top ∷ rest
 
 -- What follows: `dimension k : n`, `# g = 0`, `# g = c * g'`, and `+ c * g'`.
 pub data Item : Type 0 where

@@ -14,6 +14,9 @@ SelectionsAreOfOneMap = (p : ℕ) (s : Selection) → 1 ≤ p → IsSelection p 
 -- and so what the sum of the kept images is for a chain is its image under that map
 abbrev pub SumsAreOfOneMap : Type 0
 SumsAreOfOneMap =
-    (p : ℕ) (s : Selection) (m : IsOfOneMap p s) (c : List (ℕ × ℕ)) (r : List Factor) → IsSelection p s → IsNormal p c → AreKept s c
-    → image (cells_of s.carrying.domain) m.map (by_cell (cells_of s.carrying.domain) (coefficient c)) r
-    ≡ image (cells_of s.carrying.domain) (kept_image s) (by_cell (cells_of s.carrying.domain) (coefficient c)) r
+    (p : ℕ) (s : Selection) (m : IsOfOneMap p s) (c : List (ℕ × ℕ)) (r : List Factor)
+    → IsSelection p s → IsNormal p c → AreKept s c
+    → image (cells_of s.carrying.domain) m.map
+    (by_cell (cells_of s.carrying.domain) (coefficient c)) r
+    ≡ image (cells_of s.carrying.domain) (kept_image s)
+    (by_cell (cells_of s.carrying.domain) (coefficient c)) r

@@ -9,4 +9,5 @@ NamesBelow n ts = (g : ℕ) → n ≤ g → coefficient ts g ≡ 0
 
 -- the terms became those with a number times the chain ts
 abbrev pub AddsMultiple : ℕ → ℕ → List (ℕ × ℕ) → List (ℕ × ℕ) → List (ℕ × ℕ) → Type 0
-AddsMultiple p scale ts old new = (g : ℕ) → Same p (coefficient new g) (coefficient old g + scale * coefficient ts g)
+AddsMultiple p scale ts old new =
+    (g : ℕ) → Same p (coefficient new g) (coefficient old g + scale * coefficient ts g)

@@ -11,4 +11,5 @@ use Rattle.cell_complex.specs.Numbering.{by_cell}
 pub record IsRenumbered (p : ℕ) (of to : List (List Factor)) (cs ts : List (ℕ × ℕ)) : Type 0 where
   pub normal : IsNormal p ts
   pub within : (g : ℕ) → length to ≤ g → coefficient ts g ≡ 0
-  pub at : (g : ℕ) → g < length to → Same p (coefficient ts g) (by_cell of (coefficient cs) (cell_at to g))
+  pub at : (g : ℕ) → g < length to → Same p (coefficient ts g)
+      (by_cell of (coefficient cs) (cell_at to g))

@@ -24,7 +24,10 @@ HasKeptFaces s q k = (r : List Factor) → IsFace q r → dimension_of r < k →
 -- the chain ts of numbers of cells of the range is a right image of q, beside the kept ones
 pub record IsRightImage (p : ℕ) (s : Selection) (q : List Factor) (ts : List (ℕ × ℕ)) : Type 0 where
   pub within : (g : ℕ) → length (range_cells s) ≤ g → coefficient ts g ≡ 0
-  pub chain : IsChain p (complex_on p (in_value s.carrying.map s.carrying.domain q)) (dimension_of q) (by_cell (range_cells s) (coefficient ts))
+  pub chain : IsChain p (complex_on p (in_value s.carrying.map s.carrying.domain q))
+      (dimension_of q) (by_cell (range_cells s) (coefficient ts))
   pub commutes : (r : List Factor)
-      → Same p (boundary_at p r (by_cell (range_cells s) (coefficient ts))) (image (domain_cells s) (kept_image s) (boundary_coefficient p q) r)
-  pub augmentation : dimension_of q ≡ 0 → Same p (sum_over (range_cells s) (by_cell (range_cells s) (coefficient ts))) 1
+      → Same p (boundary_at p r (by_cell (range_cells s) (coefficient ts)))
+      (image (domain_cells s) (kept_image s) (boundary_coefficient p q) r)
+  pub augmentation : dimension_of q ≡ 0
+      → Same p (sum_over (range_cells s) (by_cell (range_cells s) (coefficient ts))) 1

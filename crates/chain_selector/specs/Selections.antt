@@ -50,9 +50,11 @@ pub record IsSelection (p : ℕ) (s : Selection) : Type 0 where
   pub sizes : length s.images ≡ length (domain_cells s)
   pub closed : IsClosed (is_kept s)
   pub within : (q : List Factor) → is_kept s q ≡ true → is_cell_of s.carrying.domain q ≡ true
-  pub numbers : (q : List Factor) (g : ℕ) → length (range_cells s) ≤ g → coefficient (kept_terms s q) g ≡ 0
+  pub numbers : (q : List Factor) (g : ℕ) → length (range_cells s) ≤ g
+      → coefficient (kept_terms s q) g ≡ 0
   pub right : (q : List Factor) → is_kept s q ≡ true
-      → IsCarriedAt p (domain_cells s) (range_cells s) (in_value s.carrying.map s.carrying.domain q) (kept_image s) q
+      → IsCarriedAt p (domain_cells s) (range_cells s)
+      (in_value s.carrying.map s.carrying.domain q) (kept_image s) q
 
 -- one carried map, defined on all cells of the domain, has all kept images
 pub record IsOfOneMap (p : ℕ) (s : Selection) : Type 0 where
@@ -63,7 +65,8 @@ pub record IsOfOneMap (p : ℕ) (s : Selection) : Type 0 where
 -- a later selection: of the same carrier, and all images that were kept are kept still
 pub record Extends (old new : Selection) : Type 0 where
   pub carrying : new.carrying ≡ old.carrying
-  pub kept : (q : List Factor) → is_kept old q ≡ true → (is_kept new q ≡ true) × (kept_terms new q ≡ kept_terms old q)
+  pub kept : (q : List Factor) → is_kept old q ≡ true
+      → (is_kept new q ≡ true) × (kept_terms new q ≡ kept_terms old q)
 
 -- the terms of a chain name cells of the domain by their numbers
 abbrev pub IsInDomain : Selection → List (ℕ × ℕ) → Type 0
@@ -71,11 +74,15 @@ IsInDomain s ts = (k : ℕ) → k < length ts → (slice_index_or ts k (0, 0)).0
 
 -- the cells of a chain of numbers have kept images
 abbrev pub AreKept : Selection → List (ℕ × ℕ) → Type 0
-AreKept s ts = (k : ℕ) → k < length ts → is_kept s (cell_at (domain_cells s) (slice_index_or ts k (0, 0)).0) ≡ true
+AreKept s ts =
+    (k : ℕ) → k < length ts → is_kept s (cell_at (domain_cells s) (slice_index_or ts k (0, 0)).0) ≡
+    true
 
 -- the chain b of numbers is the image of c, the sum of the kept images
 pub record IsImageOf (p : ℕ) (s : Selection) (c b : List (ℕ × ℕ)) : Type 0 where
   pub normal : IsNormal p b
   pub within : (g : ℕ) → length (range_cells s) ≤ g → coefficient b g ≡ 0
   pub value : (g : ℕ) → g < length (range_cells s)
-      → Same p (coefficient b g) (image (domain_cells s) (kept_image s) (by_cell (domain_cells s) (coefficient c)) (cell_at (range_cells s) g))
+      → Same p (coefficient b g)
+      (image (domain_cells s) (kept_image s) (by_cell (domain_cells s) (coefficient c))
+      (cell_at (range_cells s) g))

@@ -1,6 +1,6 @@
 -- Sorted lists of terms
-use Rattle.std.proofs.Common.{◌≡◌, ℕ, zero, suc, ◌+◌, ◌^◌, ◌<◌, ◌≤◌, ◌⊎◌, inl, inr, refl, sym, ap, ◌∙◌, arith, ⊎_elim, List, [], ◌∷◌, ◌++◌, length, get_or, true, false, cond, eqb, eq-eqb, ne_eqb, eqb-true, drop, subst}
-use Rattle.std.proofs.lemmas.List.{drop_more}
+use Rattle.std.proofs.Common.{◌≡◌, ℕ, zero, suc, ◌+◌, ◌^◌, ◌<◌, ◌≤◌, ◌⊎◌, inl, inr, refl, sym, ap, ◌∙◌, arith, ⊎_elim, List, [], ◌∷◌, ◌++◌, length, get_or, true, false, cond, eqb, eq-eqb, ne_eqb, eqb-true, drop, take, subst}
+use Rattle.std.proofs.lemmas.List.{drop_more, take_more}
 use native.Mathlib.Nat.{zero-add}
 use Rattle.chains.specs.Terms.{coefficient, IsNormalWithin, IsNormal, push_term}
 
@@ -26,6 +26,15 @@ widened p low high more (t ∷ ts) h l = (h.0, h.1, h.2, widened p (t.0 + 1) hig
 pub IsNormalWithin_push : (p low high g a : ℕ) (ts : List (ℕ × ℕ)) → IsNormalWithin p low high ts → high ≤ g → 0 < a → a < p → IsNormalWithin p low (g + 1) (ts ++ (g, a) ∷ [])
 IsNormalWithin_push p low high g a [] h l pos below = ((omega arith), pos, below, (omega arith))
 IsNormalWithin_push p low high g a (t ∷ ts) h l pos below = (h.0, h.1, h.2, IsNormalWithin_push p (t.0 + 1) high g a ts h.3 l pos below)
+
+-- one more term of a list that ascends so far
+pub normal_more : (p i low : ℕ) (ts : List (ℕ × ℕ)) → i < length ts → low ≤ (get_or ts i (0, 0)).0
+    → 0 < (get_or ts i (0, 0)).1 → (get_or ts i (0, 0)).1 < p → IsNormalWithin p 0 low (take i ts)
+    → IsNormalWithin p 0 ((get_or ts i (0, 0)).0 + 1) (take (i + 1) ts)
+normal_more p i low ts inside above some below h =
+    let t : ℕ × ℕ = get_or ts i (0, 0) in
+    subst (λ (us : List (ℕ × ℕ)). IsNormalWithin p 0 (t.0 + 1) us) (sym (take_more ts i (0, 0) inside))
+    (IsNormalWithin_push p 0 low t.0 t.1 (take i ts) h above some below)
 
 -- no term stands below the lowest place
 pub coefficient-below : (p low high : ℕ) (ts : List (ℕ × ℕ)) (g : ℕ) → IsNormalWithin p low high ts → g < low → coefficient ts g ≡ 0

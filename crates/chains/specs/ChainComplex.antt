@@ -5,7 +5,8 @@ use Rattle.field_mod.specs.Modular.{Same, NonZero}
 use Rattle.chains.specs.Terms.{coefficient, nth_chain, IsNormal}
 use Rattle.chains.specs.Homology.{System, IsBasis}
 
--- the degree of each generator, and the terms of its boundary; the generators are the numbers below the length
+-- the degree of each generator, and the terms of its boundary; the generators are the numbers below
+-- the length
 pub record ChainComplex : Type 0 where
   pub degrees : List ℕ
   pub boundaries : List (List (ℕ × ℕ))
@@ -14,8 +15,8 @@ pub record ChainComplex : Type 0 where
 abbrev pub incidence : List (List (ℕ × ℕ)) → ℕ → ℕ → ℕ
 incidence bs h g = nth_chain bs h g
 
--- the boundary of a chain c, where bs are the boundaries of the generators: at g, the sum over all generators h of c h times
--- the incidence number of h and g
+-- the boundary of a chain c, where bs are the boundaries of the generators: at g, the sum over all
+-- generators h of c h times the incidence number of h and g
 abbrev pub boundary : List (List (ℕ × ℕ)) → (ℕ → ℕ) → ℕ → ℕ
 boundary bs c g = total (length bs) (λ h. c h * incidence bs h g)
 
@@ -57,11 +58,12 @@ pub record IsFirst (F : ℕ → ℕ → Type 0) (h g : ℕ) : Type 0 where
   pub before : (j : ℕ) → j < h → (k : ℕ) → ¬ F j k
   pub beside : (k : ℕ) → F h k → g ≤ k
 
--- a chain complex modulo p: the boundary of each generator is a chain of one degree less, and the boundary of a boundary
--- is 0
+-- a chain complex modulo p: the boundary of each generator is a chain of one degree less, and the
+-- boundary of a boundary is 0
 pub record IsComplex (p : ℕ) (K : ChainComplex) : Type 0 where
   pub sizes : length K.degrees ≡ length K.boundaries
   pub short : length K.boundaries < 2 ^ 32
   pub chains : (h : ℕ) → h < length K.boundaries → IsNormal p (slice_index_or K.boundaries h [])
   pub lowers : (h g : ℕ) → IsBadDegree K.degrees K.boundaries h g → ⊥
-  pub squares_to_zero : (h g : ℕ) → h < length K.boundaries → Same p (boundary K.boundaries (incidence K.boundaries h) g) 0
+  pub squares_to_zero : (h g : ℕ) → h < length K.boundaries
+      → Same p (boundary K.boundaries (incidence K.boundaries h) g) 0

@@ -1,17 +1,20 @@
--- Homology over the numbers modulo p, for any kind of generator. A chain is a function that gives each generator its
--- coefficient; coefficients are compared modulo p, and only the generators that belong to the complex count.
+-- Homology over the numbers modulo p, for any kind of generator. A chain is a function that gives
+-- each generator its coefficient; coefficients are compared modulo p, and only the generators that
+-- belong to the complex count.
 -- (Kaczynski, Mischaikow, Mrozek: Computational Homology, Springer 2004, sections 2.2 and 9.1)
 use Rattle.std.specs.Prelude.{◌≡◌, ◌≢◌, ℕ, ◌+◌, ◌*◌, ◌<◌, Bool, true, false}
 use Rattle.field_mod.specs.Sums.{total}
 use Rattle.field_mod.specs.Modular.{Same}
 
--- what a complex is made of: which generators belong to it, the degree of each, and the boundary of a chain
+-- what a complex is made of: which generators belong to it, the degree of each, and the boundary of
+-- a chain
 pub record System (G : Type 0) : Type 0 where
   pub on : G → Bool
   pub degree : G → ℕ
   pub boundary : (G → ℕ) → G → ℕ
 
--- a chain of degree k: 0 at each generator that does not belong to the complex, or is of another degree
+-- a chain of degree k: 0 at each generator that does not belong to the complex, or is of another
+-- degree
 pub record IsChain {G : Type 0} (p : ℕ) (K : System G) (k : ℕ) (c : G → ℕ) : Type 0 where
   pub on : (g : G) → K.on g ≡ false → Same p (c g) 0
   pub of_degree : (g : G) → K.degree g ≢ k → Same p (c g) 0
@@ -20,7 +23,8 @@ pub record IsChain {G : Type 0} (p : ℕ) (K : System G) (k : ℕ) (c : G → �
 abbrev pub IsBoundaryOf : {G : Type 0} → ℕ → System G → (G → ℕ) → (G → ℕ) → Type 0
 IsBoundaryOf {G} p K b c = (g : G) → K.on g ≡ true → Same p (b g) (K.boundary c g)
 
--- r is the restriction of c to the complex: c without its terms at generators that do not belong to it
+-- r is the restriction of c to the complex: c without its terms at generators that do not belong to
+-- it
 pub record IsRestriction {G : Type 0} (p : ℕ) (K : System G) (r c : G → ℕ) : Type 0 where
   pub kept : (g : G) → K.on g ≡ true → Same p (r g) (c g)
   pub dropped : (g : G) → K.on g ≡ false → Same p (r g) 0
@@ -44,23 +48,29 @@ pub record IsNull {G : Type 0} (p : ℕ) (K : System G) (k : ℕ) (z : G → ℕ
   pub chain : IsChain p K (k + 1) filling
   pub fills : IsBoundaryOf p K z filling
 
--- z differs by a null chain, the boundary of filling, from the combination of the first n chains of zs with the
--- coefficients x
-pub record IsSpanned {G : Type 0} (p : ℕ) (K : System G) (k n : ℕ) (zs : ℕ → G → ℕ) (z : G → ℕ) : Type 0 where
+-- z differs by a null chain, the boundary of filling, from the combination of the first n chains of
+-- zs with the coefficients x
+pub record IsSpanned {G : Type 0} (p : ℕ) (K : System G) (k n : ℕ) (zs : ℕ → G → ℕ)
+    (z : G → ℕ) : Type 0 where
   pub x : ℕ → ℕ
   pub filling : G → ℕ
   pub chain : IsChain p K (k + 1) filling
   pub differs : (g : G) → K.on g ≡ true → Same p (z g) (combination n x zs g + K.boundary filling g)
 
--- the first n chains of zs are a basis of the homology in degree k: cycles, of which a combination is null only where each
--- of its coefficients is 0, and from some combination of which each cycle of degree k differs by a null chain
+-- the first n chains of zs are a basis of the homology in degree k: cycles, of which a combination
+-- is null only where each of its coefficients is 0, and from some combination of which each cycle
+-- of degree k differs by a null chain
 pub record IsBasis {G : Type 0} (p : ℕ) (K : System G) (k n : ℕ) (zs : ℕ → G → ℕ) : Type 0 where
   pub cycles : (i : ℕ) → i < n → IsCycle p K k (zs i)
-  pub independent : (x : ℕ → ℕ) → IsNull p K k (combination n x zs) → (i : ℕ) → i < n → Same p (x i) 0
+  pub independent : (x : ℕ → ℕ) → IsNull p K k (combination n x zs) → (i : ℕ) → i < n
+      → Same p (x i) 0
   pub spanning : (z : G → ℕ) → IsCycle p K k z → IsSpanned p K k n zs z
 
--- what makes the boundary one of a graded complex: it is linear, and at a generator g it is made of the coefficients of
--- generators of one degree more than g alone
+-- what makes the boundary one of a graded complex: it is linear, and at a generator g it is made of
+-- the coefficients of generators of one degree more than g alone
 pub record IsBoundaryOperator {G : Type 0} (p : ℕ) (K : System G) : Type 0 where
-  pub linear : (n : ℕ) (x : ℕ → ℕ) (cs : ℕ → G → ℕ) (g : G) → K.on g ≡ true → Same p (K.boundary (combination n x cs) g) (total n (λ i. x i * K.boundary (cs i) g))
-  pub lowers : (c d : G → ℕ) (g : G) → K.on g ≡ true → ((h : G) → K.on h ≡ true → K.degree h ≡ K.degree g + 1 → Same p (c h) (d h)) → Same p (K.boundary c g) (K.boundary d g)
+  pub linear : (n : ℕ) (x : ℕ → ℕ) (cs : ℕ → G → ℕ) (g : G) → K.on g ≡ true
+      → Same p (K.boundary (combination n x cs) g) (total n (λ i. x i * K.boundary (cs i) g))
+  pub lowers : (c d : G → ℕ) (g : G) → K.on g ≡ true
+      → ((h : G) → K.on h ≡ true → K.degree h ≡ K.degree g + 1 → Same p (c h) (d h))
+      → Same p (K.boundary c g) (K.boundary d g)

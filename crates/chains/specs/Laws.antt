@@ -1,4 +1,5 @@
--- Laws of homology modulo a prime. Each is stated for generators that are numbers; the lemmas behind them hold for any kind.
+-- Laws of homology modulo a prime. Each is stated for generators that are numbers; the lemmas
+-- behind them hold for any kind.
 use Rattle.std.specs.Prelude.{◌≡◌, ℕ, List, length}
 use Rattle.field_mod.specs.Modular.{IsField}
 use Rattle.chains.specs.Homology.{System, IsBoundaryOperator, IsChain, IsBoundaryOf, IsNull, IsCycle, IsBasis}
@@ -6,7 +7,8 @@ use Rattle.chains.specs.ChainComplex.{ChainComplex, IsComplex, IsBasisOf, system
 
 -- the boundary of a numbered complex is linear and lowers degrees by one
 abbrev pub BoundariesAreOperators : Type 0
-BoundariesAreOperators = (p : ℕ) (K : ChainComplex) → IsComplex p K → IsBoundaryOperator p (system K)
+BoundariesAreOperators =
+    (p : ℕ) (K : ChainComplex) → IsComplex p K → IsBoundaryOperator p (system K)
 
 -- two bases of the homology of one complex in one degree have the same length
 abbrev pub BasesHaveOneLength : Type 0
@@ -20,7 +22,8 @@ NumberedBasesHaveOneLength =
     (p k : ℕ) (K : ChainComplex) (zs ws : List (List (ℕ × ℕ)))
     → IsField p → IsComplex p K → IsBasisOf p K k zs → IsBasisOf p K k ws → length zs ≡ length ws
 
--- a chain of degree k that is the boundary of anything is the boundary of a chain of degree k + 1 of the complex
+-- a chain of degree k that is the boundary of anything is the boundary of a chain of degree k + 1
+-- of the complex
 abbrev pub FillingsAreOfNextDegree : Type 0
 FillingsAreOfNextDegree =
     (p k : ℕ) (K : System ℕ) (z c : ℕ → ℕ)

@@ -9,8 +9,10 @@ use Rattle.chains.specs.declared.packed.Opened.TheVariants.{InPlace, Elsewhere}
 -- four terms, of their coefficients and their generators
 abbrev pub paired : List ℕ → List ℕ → List (ℕ × ℕ)
 paired numbers generators =
-    (slice_index generators 0, slice_index numbers 0) ∷ (slice_index generators 1, slice_index numbers 1)
-    ∷ (slice_index generators 2, slice_index numbers 2) ∷ (slice_index generators 3, slice_index numbers 3) ∷ []
+    (slice_index generators 0, slice_index numbers 0) ∷
+    (slice_index generators 1, slice_index numbers 1)
+    ∷ (slice_index generators 2, slice_index numbers 2) ∷
+    (slice_index generators 3, slice_index numbers 3) ∷ []
 
 -- the terms that are kept
 abbrev pub kept : Packed → List (ℕ × ℕ)

@@ -1,6 +1,6 @@
--- Chains with finitely many terms, as lists: the coefficient of a generator, the augmentation, the product of two chains,
--- and the normal form in which a chain is kept. (Kaczynski, Mischaikow, Mrozek: Computational Homology, Springer 2004,
--- sections 2.2.1 and 3.1)
+-- Chains with finitely many terms, as lists: the coefficient of a generator, the augmentation, the
+-- product of two chains, and the normal form in which a chain is kept. (Kaczynski, Mischaikow,
+-- Mrozek: Computational Homology, Springer 2004, sections 2.2.1 and 3.1)
 use Rattle.std.specs.Prelude.{ℕ, zero, suc, ◌++◌, ◌+◌, ◌*◌, ◌<◌, ◌≤◌, ◌^◌, List, [], ◌∷◌, if◌then◌else◌, ◌==◌, slice_index_or}
 
 -- the coefficient of the generator g in a list of terms: the sum of the numbers that stand beside g
@@ -25,9 +25,11 @@ product (t ∷ ts) us = t.1 * coefficient us t.0 + product ts us
 -- the generators ascend strictly, from low on and below high, and each number is one of 1 .. p - 1
 abbrev pub IsNormalWithin : ℕ → ℕ → ℕ → List (ℕ × ℕ) → Type 0
 IsNormalWithin p low high [] = low ≤ high
-IsNormalWithin p low high (t ∷ ts) = (low ≤ t.0) × (0 < t.1) × (t.1 < p) × IsNormalWithin p (t.0 + 1) high ts
+IsNormalWithin p low high (t ∷ ts) =
+    (low ≤ t.0) × (0 < t.1) × (t.1 < p) × IsNormalWithin p (t.0 + 1) high ts
 
--- the normal form of a chain modulo p: each generator that has a coefficient stands once, in ascending order, below 2^32
+-- the normal form of a chain modulo p: each generator that has a coefficient stands once, in
+-- ascending order, below 2^32
 abbrev pub IsNormal : ℕ → List (ℕ × ℕ) → Type 0
 IsNormal p ts = IsNormalWithin p 0 (2 ^ 32) ts
 

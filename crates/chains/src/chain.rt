@@ -2,8 +2,8 @@
 ghost use Rattle.std.specs.Prelude.{◌≡◌, ℕ, ◌+◌, ◌*◌, ◌%◌, ◌<◌, ◌≤◌, List, [], length, IfOk, OnOk, OnErr, IsTrue, ◌↔◌, slice_index_or};
 ghost use Rattle.chains.specs.Terms.{coefficient, product, IsNormal};
 
-use crate::packed::{Packed, no_terms, pack};
-use crate::terms::{Terms, dot, merge, sum_terms};
+use crate::packed::{Packed, no_terms, pack, pack_copy};
+use crate::terms::{Terms, are_normal, dot, merge, sum_terms};
 use field_mod::Field;
 use smallvec::SmallVec;
 use std::alloc::{AllocError, Global};
@@ -51,6 +51,10 @@ impl<const P: u16> Chain<P> {
         ensures normal { IfOk result (IsNormal P) }
         ensures sum { IfOk result (λ c. (g : ℕ) → coefficient c g ≡ coefficient terms.now g % P) }
     {
+        if are_normal::<P>(terms) {
+            let packed = pack_copy(alloc, field, terms)?;
+            return Ok(Chain { packed, alloc });
+        }
         let mut unordered: Terms = SmallVec::from_slice(alloc, terms)?;
         Chain::sum(alloc, field, unordered.as_mut_slice())
     }

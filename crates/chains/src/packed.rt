@@ -86,15 +86,43 @@ pub fn pack<const P: u16>(
         let many = Box::new(alloc, terms)?;
         return Ok(Packed::Many(many));
     }
-    let (first, a) = entry(&terms, 0);
-    let (second, b) = entry(&terms, 1);
-    let (third, c) = entry(&terms, 2);
-    let (fourth, d) = entry(&terms, 3);
-    Ok(Packed::Few {
+    Ok(pack_few(field, &terms))
+}
+
+/// The same of terms that are copied.
+pub fn pack_copy<const P: u16>(
+    alloc: Global,
+    field: Field<P>,
+    terms: &[(u32, u16)],
+) -> Result<Packed, AllocError>
+    requires { IsNormal P terms.now }
+    ensures few { IfOk result IsFew }
+    ensures kept { IfOk result (λ packed. kept packed ≡ terms.now) }
+{
+    if terms.len() > FEW {
+        let copy = SmallVec::from_slice(alloc, terms)?;
+        let many = Box::new(alloc, copy)?;
+        return Ok(Packed::Many(many));
+    }
+    Ok(pack_few(field, terms))
+}
+
+// No more terms than stand in place.
+fn pack_few<const P: u16>(field: Field<P>, terms: &[(u32, u16)]) -> Packed
+    requires normal { IsNormal P terms.now }
+    requires few { length terms.now ≤ FEW }
+    ensures few { IsFew result }
+    ensures kept { kept result ≡ terms.now }
+{
+    let (first, a) = entry(terms, 0);
+    let (second, b) = entry(terms, 1);
+    let (third, c) = entry(terms, 2);
+    let (fourth, d) = entry(terms, 3);
+    Packed::Few {
         len: terms.len() as u8,
         numbers: [first, second, third, fourth],
         generators: [a, b, c, d],
-    })
+    }
 }
 
 impl Packed {

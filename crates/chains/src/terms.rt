@@ -1,6 +1,6 @@
 //! Lists of terms: the merge of two in normal form, and the sum of one in which generators stand in
 //! any order.
-ghost use Rattle.std.specs.Prelude.{◌≡◌, ℕ, ◌+◌, ◌*◌, ◌%◌, ◌<◌, ◌≤◌, length, OnOk, IfOk};
+ghost use Rattle.std.specs.Prelude.{◌≡◌, ℕ, ◌+◌, ◌*◌, ◌%◌, ◌<◌, ◌≤◌, length, OnOk, IfOk, IsTrue};
 ghost use Rattle.std.specs.List.Sorted.{IsNonDecreasingBy};
 ghost use Rattle.chains.specs.Terms.{coefficient, product, IsNormal, push_term};
 
@@ -86,6 +86,20 @@ pub fn dot<const P: u16>(field: Field<P>, left: &[(u32, u16)], right: &[(u32, u1
         }
     }
     sum
+}
+
+/// Whether terms are in normal form.
+pub fn are_normal<const P: u16>(terms: &[(u32, u16)]) -> bool
+    ensures { IsTrue result → IsNormal P terms.now }
+{
+    let mut least: u64 = 0;
+    for (generator, number) in terms {
+        if u64::from(*generator) < least || *number == 0 || *number >= P {
+            return false;
+        }
+        least = u64::from(*generator) + 1;
+    }
+    true
 }
 
 fn sort_terms(terms: &mut [(u32, u16)])

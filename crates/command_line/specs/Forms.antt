@@ -137,7 +137,8 @@ abbrev pub valued : Option Choice → List ℕ → Option WordRead
 valued None value = None
 valued (Some choice) value =
     if takes_value choice && not (is_empty value)
-    then Some (record { said = Set (record { choice = choice; value = Some value }); next = Anything })
+    then Some (record
+    { said = Set (record { choice = choice; value = Some value }); next = Anything })
     else None
 
 abbrev pub option_read : Row → List ℕ → Option WordRead
@@ -154,7 +155,8 @@ word_read form Anything word =
     else option_read form word
 word_read form (ValueOf choice) word =
     if is_plain word
-    then Some (record { said = Set (record { choice = choice; value = Some word }); next = Anything })
+    then Some (record
+    { said = Set (record { choice = choice; value = Some word }); next = Anything })
     else None
 word_read form OperandsAlone word =
     if is_empty word then None else Some (record { said = Operand word; next = OperandsAlone })

@@ -1,4 +1,5 @@
--- Maps that send full cubes to sets of full cubes: combinatorial multivalued maps. (Kaczynski, Mischaikow, Mrozek:
+-- Maps that send full cubes to sets of full cubes: combinatorial multivalued maps. (Kaczynski,
+-- Mischaikow, Mrozek:
 -- Computational Homology, Springer 2004, section 5.4)
 use Rattle.std.specs.Prelude.{◌≡◌, ℕ, ◌≤◌, List, [], ◌∷◌, length, map, Bool, true, false, ◌||◌, ◌&&◌, if◌then◌else◌}
 use Rattle.std.specs.List.{list_all, flat_map, AllByRecursion}
@@ -14,7 +15,8 @@ pub record Naming : Type 0 where
   pub cube : List Factor
   pub value : List (List Factor)
 
--- a map as callers see it: its dimension, 0 where that is unknown, and the named cubes in order, each with its value in order
+-- a map as callers see it: its dimension, 0 where that is unknown, and the named cubes in order,
+-- each with its value in order
 pub record Mapping : Type 0 where
   pub dimension : ℕ
   pub named : List Naming
@@ -29,7 +31,8 @@ abbrev pub value_of : List Naming → List Factor → List (List Factor)
 value_of [] q = []
 value_of (e ∷ es) q = if same_cell e.cube q then e.value else value_of es q
 
--- the named cubes, and all values one after the other: one for each pair of a cube and a cube of its value
+-- the named cubes, and all values one after the other: one for each pair of a cube and a cube of
+-- its value
 abbrev pub cubes_of : List Naming → List (List Factor)
 cubes_of named = map (λ e. e.cube) named
 
@@ -41,7 +44,8 @@ abbrev pub is_full_member : ℕ → List Factor → Bool
 is_full_member dimension q = is_member dimension q && list_all is_wide q
 
 abbrev pub is_naming : ℕ → Naming → Bool
-is_naming dimension e = is_full_member dimension e.cube && list_all (is_full_member dimension) e.value
+is_naming dimension e =
+    is_full_member dimension e.cube && list_all (is_full_member dimension) e.value
 
 -- the most named cubes of a map, and the most pairs of a cube and a cube of its value
 abbrev pub most_pairs : ℕ
@@ -51,8 +55,9 @@ most_pairs = 1048576
 abbrev pub LimitIsOfTheFormats : Type 0
 LimitIsOfTheFormats = MAP_PAIRS ≡ most_pairs
 
--- named cubes and value cubes are full, of the dimension of the map and in the range of files; named cubes are distinct and in
--- order, and so are those of each value; there are not too many of either
+-- named cubes and value cubes are full, of the dimension of the map and in the range of files;
+-- named cubes are distinct and in order, and so are those of each value; there are not too many of
+-- either
 pub record IsCubeMap (m : Mapping) : Type 0 where
   pub axes : m.dimension ≤ most_factors
   pub unknown : m.dimension ≡ 0 → m.named ≡ []

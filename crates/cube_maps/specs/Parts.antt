@@ -17,7 +17,8 @@ abbrev pub values_in : List Pair → List Factor → List (List Factor)
 values_in [] q = []
 values_in (p ∷ ps) q = if same_cell p.cube q then p.value ∷ values_in ps q else values_in ps q
 
--- the values that the first of some pairs give the cube, up to a pair of another cube, and the pairs from that one on
+-- the values that the first of some pairs give the cube, up to a pair of another cube, and the
+-- pairs from that one on
 abbrev pub first_values : List Pair → List Factor → List (List Factor)
 first_values [] q = []
 first_values (p ∷ ps) q = if same_cell p.cube q then p.value ∷ first_values ps q else []

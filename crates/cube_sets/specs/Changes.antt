@@ -22,7 +22,8 @@ changed_cell change axis q = slice_set q axis (change_of change (low (factor_at 
 
 -- the same as a list, which is empty for a cell that is no interval along the axis
 abbrev pub changed_one : Change → ℕ → List Factor → List (List Factor)
-changed_one change axis q = if is_wide (factor_at q axis) then changed_cell change axis q ∷ [] else []
+changed_one change axis q =
+    if is_wide (factor_at q axis) then changed_cell change axis q ∷ [] else []
 
 -- the cells that are intervals along an axis, each with that interval changed
 abbrev pub changed : Change → ℕ → List (List Factor) → List (List Factor)
@@ -30,7 +31,8 @@ changed change axis qs = flat_map (changed_one change axis) qs
 
 -- the cells that are intervals along an axis, each with that interval changed in either way
 abbrev pub changed_both : Change → Change → ℕ → List (List Factor) → List (List Factor)
-changed_both first second axis qs = union_of cell_cmp (changed first axis qs) (changed second axis qs)
+changed_both first second axis qs =
+    union_of cell_cmp (changed first axis qs) (changed second axis qs)
 
 -- sorted cells, and beside each that is an interval along an axis the two to which it is changed
 abbrev pub spread_once : Change → Change → ℕ → List (List Factor) → List (List Factor)
@@ -43,4 +45,5 @@ spread first second (suc axis) qs = spread_once first second axis (spread first 
 
 -- the set of a set's cells, and of those to which they are changed along all axes
 abbrev pub spread_set : Change → Change → Members → Members
-spread_set first second set = record { dimension = set.dimension; cells = spread first second set.dimension set.cells }
+spread_set first second set =
+    record { dimension = set.dimension; cells = spread first second set.dimension set.cells }

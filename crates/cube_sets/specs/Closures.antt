@@ -1,5 +1,5 @@
--- The cells of a set of cells: all faces of its members. (Kaczynski, Mischaikow, Mrozek: Computational Homology, Springer 2004,
--- section 2.1)
+-- The cells of a set of cells: all faces of its members. (Kaczynski, Mischaikow, Mrozek:
+-- Computational Homology, Springer 2004, section 2.1)
 use Rattle.std.specs.Prelude.{◌≡◌, ℕ, Bool, true, List}
 use Rattle.std.specs.List.{list_any, list_all, flat_map}
 use Rattle.std.specs.List.Sorted.{IsStrictlySortedBy}
@@ -21,9 +21,11 @@ cells_of x = set_of cell_cmp (flat_map closure_of x)
 abbrev pub closure : Members → Members
 closure set = record { dimension = set.dimension; cells = cells_of set.cells }
 
--- the law of the cells of a set: they stand in order, are exactly the faces of the members, have as many factors as these, and
--- lie in the range of the files with them
+-- the law of the cells of a set: they stand in order, are exactly the faces of the members, have as
+-- many factors as these, and lie in the range of the files with them
 pub record CellsAreFaces : Type 0 where
   pub sorted : (x : List (List Factor)) → IsStrictlySortedBy cell_cmp (cells_of x)
-  pub faces : (x : List (List Factor)) (q : List Factor) → has cell_cmp (cells_of x) q ≡ is_cell_of x q
-  pub alike : (n : ℕ) (x : List (List Factor)) → list_all (is_member n) x ≡ true → list_all (is_member n) (cells_of x) ≡ true
+  pub faces : (x : List (List Factor)) (q : List Factor)
+      → has cell_cmp (cells_of x) q ≡ is_cell_of x q
+  pub alike : (n : ℕ) (x : List (List Factor)) → list_all (is_member n) x ≡ true
+      → list_all (is_member n) (cells_of x) ≡ true

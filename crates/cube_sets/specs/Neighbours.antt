@@ -48,14 +48,17 @@ are_full cells = list_all (list_all is_wide) cells
 abbrev pub are_in_range : List (List Factor) → Bool
 are_in_range cells = list_all (list_all is_file_factor) cells
 
--- the unit interval with this lower end can be moved either way within the range of the files; so can a full cube along each axis
+-- the unit interval with this lower end can be moved either way within the range of the files; so
+-- can a full cube along each axis
 abbrev pub is_inner_end : ℤ → Bool
 is_inner_end z = int_lt least_end z && int_lt (z +ℤ pos 1) greatest_end
 
 abbrev pub is_inner : List Factor → Bool
 is_inner q = list_all is_inner_end (lower_of q)
 
--- the law of neighbours: they stand in order, and are exactly the full cubes that share a point with a member
+-- the law of neighbours: they stand in order, and are exactly the full cubes that share a point
+-- with a member
 pub record NeighboursMeet : Type 0 where
   pub sorted : (x : List (List Factor)) → IsStrictlySortedBy cell_cmp (neighbours_of x)
-  pub neighbours : (x : List (List Factor)) (q : List Factor) → has cell_cmp (neighbours_of x) q ≡ is_neighbour x q
+  pub neighbours : (x : List (List Factor)) (q : List Factor)
+      → has cell_cmp (neighbours_of x) q ≡ is_neighbour x q

@@ -17,7 +17,8 @@ pub record Members : Type 0 where
 abbrev pub is_member : ℕ → List Factor → Bool
 is_member dimension q = length q == dimension && list_all is_file_factor q
 
--- the members are sorted, distinct, of the set's dimension, and not too many; a set of unknown dimension is empty
+-- the members are sorted, distinct, of the set's dimension, and not too many; a set of unknown
+-- dimension is empty
 pub record IsCubeSet (set : Members) : Type 0 where
   pub axes : set.dimension ≤ most_factors
   pub unknown : set.dimension ≡ 0 → set.cells ≡ []

@@ -1,4 +1,5 @@
--- Sorted lists of distinct values: membership by the order, one more value, the values of two lists.
+-- Sorted lists of distinct values: membership by the order, one more value, the values of two
+-- lists.
 use Rattle.std.specs.Prelude.{Bool, List, [], ◌∷◌, filter}
 use Rattle.std.specs.List.{list_any}
 use Rattle.std.specs.Ordering.{is_eq}

@@ -1,5 +1,5 @@
--- Cells: elementary cubes, as the lists of their factors (Kaczynski, Mischaikow, Mrozek, Computational Homology, 2004,
--- section 2.1).
+-- Cells: elementary cubes, as the lists of their factors (Kaczynski, Mischaikow, Mrozek,
+-- Computational Homology, 2004, section 2.1).
 use Rattle.std.specs.Prelude.{ℕ, ◌+◌, ◌*◌, ◌^◌, ◌%◌, ◌/◌, ℤ, pos, ◌+ℤ◌, List, [], ◌∷◌, length, map, Bool, true, false, ◌&&◌, ◌==◌, nat_le, nat_lt, int_le, if◌then◌else◌, Option, None, Some}
 use Rattle.std.specs.List.{list_all}
 use Rattle.std.specs.Ordering.{int_eq}
@@ -74,12 +74,15 @@ cell_of (l ∷ ls) axes = (if axes % 2 == 1 then interval l else point l) ∷ ce
 abbrev pub full_cell : List ℤ → List Factor
 full_cell = map interval
 
--- the factors as a cell of the program, where they are one; those of a corner and axes, where these are axes of it
+-- the factors as a cell of the program, where they are one; those of a corner and axes, where these
+-- are axes of it
 abbrev pub checked : List Factor → Option (List Factor)
 checked q = if is_cell q then Some q else None
 
 abbrev pub checked_of : List ℤ → ℕ → Option (List Factor)
-checked_of ls axes = if nat_lt axes (2 ^ length ls) && is_cell (cell_of ls axes) then Some (cell_of ls axes) else None
+checked_of ls axes =
+    if nat_lt axes (2 ^ length ls) && is_cell (cell_of ls axes) then Some (cell_of ls axes) else
+    None
 
 -- the number of intervals
 abbrev pub dimension_of : List Factor → ℕ

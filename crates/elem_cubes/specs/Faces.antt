@@ -1,4 +1,5 @@
--- Faces of cells: all of them, those of one dimension less with their signs, and the cells that have a cell as a face.
+-- Faces of cells: all of them, those of one dimension less with their signs, and the cells that
+-- have a cell as a face.
 use Rattle.std.specs.Prelude.{◌≡◌, ◌⊎◌, ◌+◌, ℤ, pos, negsuc, ◌+ℤ◌, neg_ℤ, List, [], ◌∷◌, ◌++◌, map, Bool, true, false, ◌&&◌, ◌||◌}
 use Rattle.std.specs.List.{flat_map}
 use Rattle.std.specs.Ordering.{int_eq}
@@ -47,7 +48,8 @@ behind f g = (f ∷ g.0, turned f g.1)
 -- the cells that differ from this one in one factor, which is changed as told: first factor first
 abbrev pub changed : (Factor → List (Factor × ℤ)) → List Factor → List (List Factor × ℤ)
 changed change [] = []
-changed change (f ∷ fs) = map (λ e. (e.0 ∷ fs, e.1)) (change f) ++ map (behind f) (changed change fs)
+changed change (f ∷ fs) =
+    map (λ e. (e.0 ∷ fs, e.1)) (change f) ++ map (behind f) (changed change fs)
 
 -- the ends of an interval with their signs, the upper one first; a point has none
 abbrev pub ends_of : Factor → List (Factor × ℤ)

@@ -18,7 +18,8 @@ pub length-cell_of : (ls : List ℤ) (a : ℕ) → length (cell_of ls a) ≡ len
 length-cell_of [] a = refl
 length-cell_of (l ∷ ls) a = ap suc (length-cell_of ls (a / 2))
 
-axes-chosen : (b : Bool) (l : ℤ) (qs : List Factor) → axes_of (cond b (interval l) (point l) ∷ qs) ≡ cond b 1 0 + 2 * axes_of qs
+axes-chosen : (b : Bool) (l : ℤ) (qs : List Factor)
+    → axes_of (cond b (interval l) (point l) ∷ qs) ≡ cond b 1 0 + 2 * axes_of qs
 axes-chosen true l qs = refl
 axes-chosen false l qs = omega arith
 
@@ -32,10 +33,13 @@ axes-cell_of [] a h = omega arith
 axes-cell_of (l ∷ ls) a h =
     let half : a / 2 < 2 ^ length ls = omega (arith, pow-suc 2 (length ls)) in
     axes-chosen (eqb (a % 2) 1) l (cell_of ls (a / 2))
-    ∙ (let e = axes-cell_of ls (a / 2) half in let b = bit_read (a % 2) (omega arith) in omega arith)
+    ∙ (let e = axes-cell_of ls (a / 2) half in let b = bit_read (a % 2)
+    (omega arith) in omega arith)
 
 pub unpacked : (ends : List ℤ) (len axes : ℕ) → KeepsCell ends len axes
-    → (padded MAX_EMBEDDING (lower_of (cell_of (take len ends) axes)) ≡ ends) × (length (cell_of (take len ends) axes) ≡ len) × (axes_of (cell_of (take len ends) axes) ≡ axes)
+    → (padded MAX_EMBEDDING (lower_of (cell_of (take len ends) axes)) ≡ ends)
+    × (length (cell_of (take len ends) axes) ≡ len)
+    × (axes_of (cell_of (take len ends) axes) ≡ axes)
 unpacked ends len axes k = (
   ap (padded MAX_EMBEDDING) (lower-cell_of (take len ends) axes) ∙ sym k.rest,
   length-cell_of (take len ends) axes ∙ k.long,

@@ -1,4 +1,5 @@
--- Corners and cells as they are kept: coordinates padded to one length, which are compared and hashed two at a time.
+-- Corners and cells as they are kept: coordinates padded to one length, which are compared and
+-- hashed two at a time.
 use Rattle.std.specs.Prelude.{◌≡◌, ℕ, ◌-◌, ◌^◌, ◌<◌, ℤ, pos, ◌+ℤ◌, ◌*ℤ◌, List, [], ◌∷◌, ◌++◌, length, take, replicate, IsTrue}
 use Rattle.std.specs.List.{flat_map}
 use Rattle.std.specs.Hash as fed
@@ -37,8 +38,10 @@ pub record KeepsCell (ends : List ℤ) (len axes : ℕ) : Type 0 where
 -- the order of the upper corners of any two cells with one lower corner and these axes
 abbrev pub OrdersUppers : ℕ → ℕ → Ordering → Type 0
 OrdersUppers a b order =
-    (ls : List ℤ) → a < 2 ^ length ls → b < 2 ^ length ls → order ≡ corner_cmp (upper_of (cell_of ls a)) (upper_of (cell_of ls b))
+    (ls : List ℤ) → a < 2 ^ length ls → b < 2 ^ length ls
+    → order ≡ corner_cmp (upper_of (cell_of ls a)) (upper_of (cell_of ls b))
 
 -- what a cell feeds a hasher: its words and its axes
 abbrev pub cell_writes : List Factor → List (List ℕ)
-cell_writes q = flat_map fed.i64 (words_of (padded MAX_EMBEDDING (lower_of q))) ++ fed.u8 (axes_of q)
+cell_writes q =
+    flat_map fed.i64 (words_of (padded MAX_EMBEDDING (lower_of q))) ++ fed.u8 (axes_of q)

@@ -1,4 +1,5 @@
--- Walks along the axes of a cell: what an iterator over its faces, its cofaces or its closure has left.
+-- Walks along the axes of a cell: what an iterator over its faces, its cofaces or its closure has
+-- left.
 use Rattle.std.specs.Prelude.{◌≡◌, ℕ, ◌<◌, ◌≤◌, ◌/◌, ◌%◌, ℤ, pos, negsuc, List, [], ◌∷◌, length, take, drop, map, Bool, true, false, not, if◌then◌else◌, slice_index_or}
 use Rattle.elem_cubes.specs.Cells.{Factor, point, interval, is_wide}
 use Rattle.elem_cubes.specs.Faces.{behind, changed, parts_of}
@@ -29,10 +30,12 @@ behind_all (f ∷ fs) g = behind f (behind_all fs g)
 
 -- what is left of the changed cells from this axis on; second: the first change along it was given
 abbrev pub left : (Factor → List (Factor × ℤ)) → List Factor → ℕ → Bool → List (List Factor × ℤ)
-left change q axis second = map (behind_all (take axis q)) (drop (if second then 1 else 0) (changed change (drop axis q)))
+left change q axis second =
+    map (behind_all (take axis q)) (drop (if second then 1 else 0) (changed change (drop axis q)))
 
 -- what a walk over the intervals, or over the points, keeps
-pub record KeepsWalk (wide : Bool) (q : List Factor) (axis : ℕ) (second negative : Bool) : Type 0 where
+pub record KeepsWalk (wide : Bool) (q : List Factor) (axis : ℕ)
+    (second negative : Bool) : Type 0 where
   pub within : axis ≤ length q
   pub signed : negative ≡ is_turned (take axis q)
   pub twice : second ≡ true → (axis < length q) × (is_wide (factor_at q axis) ≡ wide)
@@ -49,4 +52,5 @@ part_at f digit = slice_index_or (parts_of f) digit f
 -- the face at a place of the closure: the remainders of the place choose a part of each factor
 abbrev pub face_at : List Factor → ℕ → List Factor
 face_at [] place = []
-face_at (f ∷ fs) place = part_at f (place % length (parts_of f)) ∷ face_at fs (place / length (parts_of f))
+face_at (f ∷ fs) place =
+    part_at f (place % length (parts_of f)) ∷ face_at fs (place / length (parts_of f))

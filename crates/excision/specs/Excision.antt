@@ -1,5 +1,5 @@
--- Excision: of the subset only what touches the set counts. (Kaczynski, Mischaikow, Mrozek: Computational Homology, Springer
--- 2004, section 9.1)
+-- Excision: of the subset only what touches the set counts. (Kaczynski, Mischaikow, Mrozek:
+-- Computational Homology, Springer 2004, section 9.1)
 use Rattle.std.specs.Prelude.{◌≡◌, Bool, true, List, filter}
 use Rattle.std.specs.List.{list_any}
 use Rattle.elem_cubes.specs.Cells.{Factor, dimension_of}

@@ -16,34 +16,41 @@ use Rattle.cell_complex.specs.Growth.{IsMovable, IsFinishedGrowth}
 use Rattle.excision.specs.Taking.{TakeFaces, is_number_of_new}
 use Rattle.excision.specs.Excision.{touches}
 
--- one move of a growth: further steps, each within the faces of the cube that are new, until no boundary is left among
--- these, take exactly them, and leave restrictions
+-- one move of a growth: further steps, each within the faces of the cube that are new, until no
+-- boundary is left among these, take exactly them, and leave restrictions
 abbrev pub MovesLeaveRestrictions : Type 0
 MovesLeaveRestrictions =
-    (p : ℕ) (x a cells cubes : List (List Factor)) (K : ChainComplex) (ss more : List Step) (q : List Factor)
+    (p : ℕ) (x a cells cubes : List (List Factor)) (K : ChainComplex) (ss more : List Step)
+    (q : List Factor)
     → 2 ≤ p → IsRelativeComplex p x a cells K → Contains x q → IsMovable p (a ++ cubes) q
     → LeaveRestrictions p K ss → TakeFaces cells cubes ss
     → AreStepsOf p K (ss ++ more) → AreWithin (is_number_of_new cells (a ++ cubes) q) more
-    → ((h g : ℕ) → is_number_of_new cells (a ++ cubes) q h ≡ true → is_number_of_new cells (a ++ cubes) q g ≡ true → Same p (left_of p K (ss ++ more) h g) 0)
+    → ((h g : ℕ) → is_number_of_new cells (a ++ cubes) q h ≡ true
+    → is_number_of_new cells (a ++ cubes) q g ≡ true → Same p (left_of p K (ss ++ more) h g) 0)
     → LeaveRestrictions p K (ss ++ more) × TakeFaces cells (cubes ++ q ∷ []) (ss ++ more)
 
 -- steps that take exactly the faces of some cubes leave restrictions
 abbrev pub FacesLeaveRestrictions : Type 0
 FacesLeaveRestrictions =
     (p : ℕ) (cells cubes : List (List Factor)) (K : ChainComplex) (ss : List Step)
-    → IsComplexOf p cells K → AreStepsOf p K ss → TakeFaces cells cubes ss → LeaveRestrictions p K ss
+    → IsComplexOf p cells K → AreStepsOf p K ss → TakeFaces cells cubes ss
+    → LeaveRestrictions p K ss
 
 -- the members of a that do not touch x make no difference to the relative cells, nor to growths
 pub record ExcisionKeepsCells : Type 0 where
-  pub cells : (x a : List (List Factor)) (q : List Factor) → is_relative x (filter (touches x) a) q ≡ is_relative x a q
-  pub growths : (p : ℕ) (x a cubes : List (List Factor)) → IsFinishedGrowth p x (filter (touches x) a) cubes → IsFinishedGrowth p x a cubes
+  pub cells : (x a : List (List Factor)) (q : List Factor)
+      → is_relative x (filter (touches x) a) q ≡ is_relative x a q
+  pub growths : (p : ℕ) (x a cubes : List (List Factor))
+      → IsFinishedGrowth p x (filter (touches x) a) cubes → IsFinishedGrowth p x a cubes
 
 -- two cells share a point where they have a vertex in common, and only there
 abbrev pub TouchingCellsShareVertices : Type 0
 TouchingCellsShareVertices =
-    (s c : List Factor) → (cells_meet s c ≡ true) ↔ ((v : List Factor) × (dimension_of v ≡ 0) × IsFace s v × IsFace c v)
+    (s c : List Factor) → (cells_meet s c ≡ true) ↔
+    ((v : List Factor) × (dimension_of v ≡ 0) × IsFace s v × IsFace c v)
 
--- what is left of a closed list of cells when it is reduced until no boundary is left: one vertex alone
+-- what is left of a closed list of cells when it is reduced until no boundary is left: one vertex
+-- alone
 pub record IsOneVertex (K : ChainComplex) (ss : List Step) : Type 0 where
   pub vertex : ℕ
   pub inside : vertex < length K.boundaries
@@ -55,5 +62,6 @@ pub record IsOneVertex (K : ChainComplex) (ss : List Step) : Type 0 where
 abbrev pub ReductionsShowAcyclicity : Type 0
 ReductionsShowAcyclicity =
     (p : ℕ) (cells : List (List Factor)) (K : ChainComplex) (ss : List Step)
-    → IsField p → IsClosedList cells → IsRelativeComplex p cells [] cells K → AreStepsOf p K ss → NothingLeft p K ss
+    → IsField p → IsClosedList cells → IsRelativeComplex p cells [] cells K → AreStepsOf p K ss
+    → NothingLeft p K ss
     → IsAcyclic p cells ↔ IsOneVertex K ss

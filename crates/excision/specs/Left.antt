@@ -24,7 +24,8 @@ is_left cells ss c = has cell_cmp cells c && is_unpaired ss (number_of cells c)
 abbrev pub is_gone : List (List Factor) → List Step → List Factor → Bool
 is_gone cells ss c = not (is_left cells ss c)
 
--- q may be moved into the cells that the test tells: it is none of them, and those of its cells that are, are acyclic
+-- q may be moved into the cells that the test tells: it is none of them, and those of its cells
+-- that are, are acyclic
 pub record IsMovableInto (p : ℕ) (gone : List Factor → Bool) (q : List Factor) : Type 0 where
   pub new : gone q ≡ false
   pub acyclic : IsAcyclic p (cells_in gone q)
@@ -34,7 +35,8 @@ abbrev pub IsClosedIn : List Factor → (List Factor → Bool) → Type 0
 IsClosedIn q gone = (c r : List Factor) → IsFace q c → IsFace c r → gone c ≡ true → gone r ≡ true
 
 -- the number is that of a face of q that is left
-pub record IsLeftFace (cells : List (List Factor)) (ss : List Step) (q : List Factor) (n : ℕ) : Type 0 where
+pub record IsLeftFace (cells : List (List Factor)) (ss : List Step) (q : List Factor)
+    (n : ℕ) : Type 0 where
   pub inside : n < length cells
   pub face : IsFace q (cell_at cells n)
   pub alive : IsUnpaired ss n

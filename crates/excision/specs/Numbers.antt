@@ -6,7 +6,8 @@ use Rattle.algebraic_reduction.specs.Reduction.{Step}
 use Rattle.cell_complex.specs.Numbering.{number_of}
 use Rattle.excision.specs.Left.{is_unpaired}
 
--- the numbers of all faces of a cell, in the order of its closure; for a face that has none the count of cells stands
+-- the numbers of all faces of a cell, in the order of its closure; for a face that has none the
+-- count of cells stands
 unfoldable pub face_numbers : List (List Factor) → List Factor → List ℕ
 face_numbers cells q = map (number_of cells) (closure_of q)
 

@@ -9,6 +9,9 @@ use Rattle.elem_cubes.specs.Laws.{cell_at}
 abbrev pub Names : List (List ℕ) → ℕ → ℕ → Type 0
 Names lists n j = Contains (slice_index_or lists n []) j
 
--- at the number of each cell stand at least those members of x, by their places, that have it as a face
+-- at the number of each cell stand at least those members of x, by their places, that have it as a
+-- face
 abbrev pub AreOwners : List (List Factor) → List (List Factor) → List (List ℕ) → Type 0
-AreOwners cells x lists = (n j : ℕ) → n < length cells → j < length x → IsFace (cell_at x j) (cell_at cells n) → Names lists n j
+AreOwners cells x lists =
+    (n j : ℕ) → n < length cells → j < length x → IsFace (cell_at x j) (cell_at cells n)
+    → Names lists n j

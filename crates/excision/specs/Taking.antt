@@ -9,11 +9,13 @@ use Rattle.algebraic_reduction.specs.Restrictions.{AreWithin}
 
 -- the steps take exactly the numbered cells that are faces of the cubes
 abbrev pub TakeFaces : List (List Factor) → List (List Factor) → List Step → Type 0
-TakeFaces cells cubes ss = (i : ℕ) → i < length cells → IsUnpaired ss i ↔ (is_cell_of cubes (cell_at cells i) ≡ false)
+TakeFaces cells cubes ss =
+    (i : ℕ) → i < length cells → IsUnpaired ss i ↔ (is_cell_of cubes (cell_at cells i) ≡ false)
 
 -- the number is that of a face of q that is no cell of the set s
 abbrev pub is_number_of_new : List (List Factor) → List (List Factor) → List Factor → ℕ → Bool
-is_number_of_new cells s q i = nat_lt i (length cells) && (is_face q (cell_at cells i) && not (is_cell_of s (cell_at cells i)))
+is_number_of_new cells s q i =
+    nat_lt i (length cells) && (is_face q (cell_at cells i) && not (is_cell_of s (cell_at cells i)))
 
 -- the new steps are the old ones and further ones, each by a pair of the part
 pub record AreFurtherWithin (part : ℕ → Bool) (old new : List Step) : Type 0 where

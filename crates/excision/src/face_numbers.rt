@@ -1,5 +1,5 @@
 //! The faces of the members of a set by their numbers.
-ghost use Rattle.std.specs.Prelude.{◌≡◌, ◌<◌, ◌↔◌, [], length, map, slice_index_or, slice_get, Some, IsSome, IfSome, IfOk};
+ghost use Rattle.std.specs.Prelude.{◌≡◌, ◌<◌, ◌↔◌, [], length, map, slice_index_or, slice_get, Some, IsSome, IfOk};
 ghost use Rattle.std.specs.List.{Contains};
 ghost use Rattle.cell_complex.specs.Numbering.{number_of};
 ghost use Rattle.cell_complex.specs.Sorted.{IsSortedCells};
@@ -10,9 +10,6 @@ use cube_sets::CubeSet;
 use elem_cubes::Cell;
 use std::alloc::{AllocError, Global};
 use std::marker::Model;
-
-// How many cells are looked at before a search of all.
-const FEW: usize = 16;
 
 // Room for a number beside each place of a closure.
 const PLACES: usize = 729;
@@ -78,38 +75,12 @@ fn numbers_of(
     Ok(numbers)
 }
 
-// The number of a cell, or the count of cells. It is looked for first among the few cells from
-// `near` on, which is then the place behind it.
+// The number of a cell, or the count of cells.
 fn number_or_count(cells: &Numbered, cell: &Cell, near: &mut u32) -> u32
     ensures { result ≡ number_of cells.now cell.now }
 {
-    let Some(number) = number_near(cells, cell, *near) else {
+    let Some(number) = cells.number_near(cell, near) else {
         return cells.len();
     };
-    *near = number.saturating_add(1);
     number
-}
-
-fn number_near(cells: &Numbered, cell: &Cell, near: u32) -> Option<u32>
-    ensures found { IsSome result ↔ Contains cells.now cell.now }
-    ensures place { IfSome result (λ number. slice_get cells.now number ≡ Some cell.now) }
-    ensures sorted { IsSortedCells cells.now }
-{
-    match place_from(cells.cells(), cell, near as usize) {
-        Some(place) => Some(place as u32),
-        None => cells.number(cell),
-    }
-}
-
-// The place of a cell, where it is one of the few from a place on.
-fn place_from(cells: &[Cell], cell: &Cell, near: usize) -> Option<usize>
-    ensures { IfSome result (λ place. slice_get cells.now place ≡ Some cell.now) }
-{
-    let end = near.saturating_add(FEW).min(cells.len());
-    for place in near..end {
-        if cells[place] == *cell {
-            return Some(place);
-        }
-    }
-    None
 }

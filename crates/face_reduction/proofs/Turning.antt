@@ -3,7 +3,7 @@ use Rattle.std.proofs.Common.{◌≡◌, ◌≢◌, ℕ, ◌<◌, ◌⊎◌, ref
 use Rattle.std.specs.Prelude.{not}
 use Rattle.excision.specs.Left.{is_one_of}
 use Rattle.std.proofs.lemmas.Bool.{true≢false, cases_eq, cases_Bool, and_parts, and_from, not-true}
-use Rattle.elem_cubes.specs.Cells.{Factor, same_cell}
+use Rattle.elem_cubes.specs.Cells.{Factor, dimension_of, same_cell}
 use Rattle.elem_cubes.specs.Faces.{IsFacet}
 use Rattle.elem_cubes.specs.Laws.{cell_at}
 use Rattle.elem_cubes.specs.OrderLemmas.{cell_refl, cell_cases}
@@ -42,8 +42,8 @@ module _ (cells : List (List Factor)) (ss new : List Step) (a b : ℕ) (sorted :
   pub still_idle : (old now : List ℕ)
       → ((k : ℕ) → k < length cells → is_one_of old k ≡ false → k ≢ a → ¬ IsFreeFace (is_left cells ss) (cell_at cells k))
       → ((k : ℕ) → is_one_of old k ≡ true → is_one_of now k ≡ true)
-      → ((k : ℕ) → k < length cells → IsFacet A (cell_at cells k) → is_one_of now k ≡ true)
-      → ((k : ℕ) → k < length cells → IsFacet B (cell_at cells k) → is_one_of now k ≡ true)
+      → ((k : ℕ) → k < length cells → IsFacet A (cell_at cells k) → (is_one_of now k ≡ true) ⊎ (¬ IsFreeFace (is_left cells new) (cell_at cells k)))
+      → ((k : ℕ) → k < length cells → IsFacet B (cell_at cells k) → (is_one_of now k ≡ true) ⊎ (¬ IsFreeFace (is_left cells new) (cell_at cells k)))
       → (k : ℕ) → k < length cells → is_one_of now k ≡ false → ¬ IsFreeFace (is_left cells new) (cell_at cells k)
   still_idle old now rest kept woken_a woken_b k l idle w = ⊎_elim
       (λ e. true≢false (sym (ap (λ c. same_cell c A) (ap (cell_at cells) e) ∙ cell_refl A) ∙ (before (cell_at cells k) w.1.face_alive).1))
@@ -54,9 +54,9 @@ module _ (cells : List (List Factor)) (ss new : List Step) (a b : ℕ) (sorted :
           coface_alive = (before w.0 w.1.coface_alive).0;
           facet = w.1.facet;
           only = λ c alive facet. ⊎_elim
-              (λ e. absurd (true≢false (sym (woken_a k l (subst (λ (q : List Factor). IsFacet q (cell_at cells k)) e facet)) ∙ idle)))
+              (λ e. absurd (⊎_elim (λ t. true≢false (sym t ∙ idle)) (λ none. none w) (woken_a k l (subst (λ (q : List Factor). IsFacet q (cell_at cells k)) e facet))))
               (λ na. ⊎_elim
-              (λ e. absurd (true≢false (sym (woken_b k l (subst (λ (q : List Factor). IsFacet q (cell_at cells k)) e facet)) ∙ idle)))
+              (λ e. absurd (⊎_elim (λ t. true≢false (sym t ∙ idle)) (λ none. none w) (woken_b k l (subst (λ (q : List Factor). IsFacet q (cell_at cells k)) e facet))))
               (λ nb. w.1.only c (after c alive na nb) facet)
               (cell_cases c B))
               (cell_cases c A);
@@ -73,6 +73,10 @@ none_at_all cells ss sorted none a b f =
     let w = left_parts cells sorted ss a f.face_alive in
     none w.0 w.1 (b, subst (λ (c : List Factor). IsFreePair (is_left cells ss) c b) (sym w.2) f)
 
+-- the two cells of a free pair are not the same
+pub free_apart : (cells : List (List Factor)) (ss : List Step) (a b : ℕ) → IsFreeNumber cells ss a b → b ≢ a
+free_apart cells ss a b f e = let d = f.free.facet.1 in let q = ap (λ (k : ℕ). dimension_of (cell_at cells k)) e in absurd (omega (arith, d, q))
+
 -- ---- the faces that wait
 
 -- one less waits
@@ -86,10 +90,10 @@ idle_step cells alive i old now kept idle none k l f w = ⊎_elim
     (λ d. idle k l d w)
     (cases_Bool (is_one_of old k))
 
--- all of them wait at first
-pub idle_first : (cells : List (List Factor)) (alive : List Factor → Bool) (n : ℕ) (now : List ℕ) → n ≡ length cells → ((k : ℕ) → k < n → is_one_of now k ≡ true)
+-- all of them wait at first that are free
+pub idle_first : (cells : List (List Factor)) (alive : List Factor → Bool) (now : List ℕ) → ((k : ℕ) → k < length cells → (is_one_of now k ≡ true) ⊎ (¬ IsFreeFace alive (cell_at cells k)))
     → (k : ℕ) → k < length cells → is_one_of now k ≡ false → ¬ IsFreeFace alive (cell_at cells k)
-idle_first cells alive n now e all k l f w = true≢false (sym (all k (omega arith)) ∙ f)
+idle_first cells alive now all k l f w = ⊎_elim (λ t. true≢false (sym t ∙ f)) (λ none. none w) (all k l)
 
 -- all but the face that was found
 pub idle_rest : (cells : List (List Factor)) (alive : List Factor → Bool) (i : ℕ) (old now : List ℕ)

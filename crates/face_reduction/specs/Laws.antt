@@ -17,10 +17,11 @@ use Rattle.face_reduction.specs.Logs.{IsGrowthThenCollapse, IsCollapse}
 abbrev pub CollapsesLeaveRestrictions : Type 0
 CollapsesLeaveRestrictions =
     (p : ℕ) (cells : List (List Factor)) (K : ChainComplex) (ss : List Step)
-    → IsSortedCells cells → IsComplexOf p cells K → AreStepsOf p K ss → IsGrowthThenCollapse cells ss → LeaveRestrictions p K ss
+    → IsSortedCells cells → IsComplexOf p cells K → AreStepsOf p K ss
+    → IsGrowthThenCollapse cells ss → LeaveRestrictions p K ss
 
--- what a free pair of numbered cells is to a log that leaves restrictions: a pair that may be reduced, whose incidence number
--- in what is left is its own inverse
+-- what a free pair of numbered cells is to a log that leaves restrictions: a pair that may be
+-- reduced, whose incidence number in what is left is its own inverse
 pub record IsUnitPair (p : ℕ) (K : ChainComplex) (ss : List Step) (a b : ℕ) : Type 0 where
   pub a_alive : IsUnpaired ss a
   pub b_alive : IsUnpaired ss b
@@ -29,7 +30,8 @@ pub record IsUnitPair (p : ℕ) (K : ChainComplex) (ss : List Step) (a b : ℕ) 
 abbrev pub FreePairsAreUnits : Type 0
 FreePairsAreUnits =
     (p : ℕ) (cells : List (List Factor)) (K : ChainComplex) (ss : List Step) (a b : ℕ)
-    → 1 ≤ p → IsSortedCells cells → IsComplexOf p cells K → LeaveRestrictions p K ss → a < length cells → b < length cells
+    → 1 ≤ p → IsSortedCells cells → IsComplexOf p cells K → LeaveRestrictions p K ss
+    → a < length cells → b < length cells
     → IsFreePair (is_left cells ss) (cell_at cells a) (cell_at cells b) → IsUnitPair p K ss a b
 
 -- further steps by free pairs go on with a collapse, and the cells that are left come by it
@@ -37,4 +39,5 @@ abbrev pub CollapsesGoOn : Type 0
 CollapsesGoOn =
     (cells : List (List Factor)) (old new : List Step)
     → IsSortedCells cells → IsCollapse cells old new
-    → CollapsesTo (is_left cells old) (is_left cells new) × (IsGrowthThenCollapse cells old → IsGrowthThenCollapse cells new)
+    → CollapsesTo (is_left cells old) (is_left cells new)
+    × (IsGrowthThenCollapse cells old → IsGrowthThenCollapse cells new)

@@ -5,9 +5,8 @@ ghost use Rattle.cell_complex.specs.Numbering.{IsComplexOf};
 ghost use Rattle.excision.specs.Left.{is_left};
 ghost use Rattle.face_reduction.specs.Logs.{IsGrowthThenCollapse, IsCollapse, TakesPairs};
 
-use crate::cofaces::{cofaces_of, wake_faces};
+use crate::cofaces::{cofaces_of, take_coface, wake_all, wake_faces};
 use crate::free_pairs::next_free;
-use crate::front::Front;
 use algebraic_reduction::Log;
 use cell_complex::Numbered;
 use elem_cubes::Cell;
@@ -15,9 +14,9 @@ use field_mod::Field;
 use std::alloc::{AllocError, Global};
 
 /// Further steps by free pairs, until no pair of the cells that are left is free. The first steps
-/// of the log take exactly the faces of some cubes, and the later ones take free pairs. A cell is
-/// looked at at first, and again after a pair was taken that had it as a facet. Where memory is
-/// wanting the log is consumed.
+/// of the log take exactly the faces of some cubes, and the later ones take free pairs. Of each
+/// cell the cofaces that are left are counted and their numbers summed up, so that a free face
+/// tells its coface. Where memory is wanting the log is consumed.
 ///
 /// In the plane what comes to be free is taken before the next free face: so borders of holes stay
 /// whole, and cycles that go round them are short. In higher dimensions that leaves far more cells,
@@ -35,13 +34,15 @@ pub fn collapse<const P: u16>(
     ensures none_free { IfOk result (λ l. HasNoFreePair (is_left cells.now l.steps)) }
 {
     let mut log = log;
-    let cofaces = cofaces_of(alloc, &log, cells)?;
-    let mut waiting = Front::below(alloc, cells.len(), lie_in_plane(cells))?;
-    'pairs: while let Some(pair) = next_free(&log, cells, &cofaces, &mut waiting) {
+    let mut tallies = cofaces_of(alloc, &log)?;
+    let mut waiting = wake_all(alloc, &tallies, cells.len(), lie_in_plane(cells))?;
+    'pairs: while let Some(pair) = next_free(&log, cells, &tallies, &mut waiting) {
         let _ = log.step_count();
         log = log.reduce_pair(field, pair.0, pair.1)?;
-        wake_faces(log.complex().boundary(pair.0), &mut waiting)?;
-        wake_faces(log.complex().boundary(pair.1), &mut waiting)?;
+        take_coface(&mut tallies, log.complex().boundary(pair.0), pair.0);
+        take_coface(&mut tallies, log.complex().boundary(pair.1), pair.1);
+        wake_faces(log.complex().boundary(pair.0), &tallies, &mut waiting)?;
+        wake_faces(log.complex().boundary(pair.1), &tallies, &mut waiting)?;
     }
     Ok(log)
 }

@@ -1,30 +1,30 @@
 //! Free pairs among the cells that a log leaves.
-ghost use Rattle.std.specs.Prelude.{◌≡◌, ◌≢◌, ℕ, ◌<◌, List, IfSome, IfNone, length, true, false};
+ghost use Rattle.std.specs.Prelude.{◌≡◌, ◌≢◌, ℕ, ◌<◌, ◌≤◌, List, IfSome, IfNone, length, true, false};
 ghost use Rattle.elem_cubes.specs.Cells.{Factor};
 ghost use Rattle.elem_cubes.specs.Laws.{cell_at};
 ghost use Rattle.cell_complex.specs.FreePairs.{IsFreePair};
 ghost use Rattle.cell_complex.specs.Sorted.{IsSortedCells};
 ghost use Rattle.cell_complex.specs.Numbering.{IsComplexOf};
 ghost use Rattle.excision.specs.Left.{is_left, is_one_of};
-ghost use Rattle.face_reduction.specs.Cofaces.{AreCofaces};
+ghost use Rattle.face_reduction.specs.Cofaces.{CountCofaces};
 ghost use Rattle.face_reduction.specs.Logs.{IsFreeNumber, IsFreeFace};
 
+use crate::cofaces::{Tally, only_coface};
 use crate::front::Front;
 use algebraic_reduction::Log;
 use cell_complex::Numbered;
-use excision::Owners;
 
 // The number of the one cell that is left and has the cell of this number as a facet, where that is
 // left.
 fn free_coface<const P: u16>(
     log: &Log<P>,
     cells: &Numbered,
-    cofaces: &Owners,
+    tallies: &[Tally],
     face: u32,
 ) -> Option<u32>
+    requires prime { 2 ≤ P }
     requires complex { IsComplexOf P cells.now log.now.complex }
-    requires count { length cofaces.now ≡ length cells.now }
-    requires cofaces { AreCofaces cells.now cofaces.now }
+    requires tallies { CountCofaces log.now.complex log.now.steps tallies.now }
     requires face { face < length cells.now }
     ensures some { IfSome result (IsFreeNumber cells.now log.now.steps face) }
     ensures none { IfNone result ((b : List Factor) → ¬ IsFreePair (is_left cells.now log.now.steps)
@@ -35,21 +35,7 @@ fn free_coface<const P: u16>(
     if !log.alive(face) {
         return None;
     }
-    let numbers = cofaces.of_number(face);
-    let mut found = None;
-    for coface in numbers {
-        if !log.alive(*coface) {
-            continue;
-        }
-        let Some(other) = found else {
-            found = Some(*coface);
-            continue;
-        };
-        if other != *coface {
-            return None;
-        }
-    }
-    found
+    only_coface(tallies, face)
 }
 
 // The first waiting face of a free pair, with its coface. Those before it wait no more; none of the
@@ -57,12 +43,12 @@ fn free_coface<const P: u16>(
 pub(crate) fn next_free<const P: u16>(
     log: &Log<P>,
     cells: &Numbered,
-    cofaces: &Owners,
+    tallies: &[Tally],
     waiting: &mut Front,
 ) -> Option<(u32, u32)>
     requires complex { IsComplexOf P cells.now log.now.complex }
-    requires count { length cofaces.now ≡ length cells.now }
-    requires cofaces { AreCofaces cells.now cofaces.now }
+    requires prime { 2 ≤ P }
+    requires tallies { CountCofaces log.now.complex log.now.steps tallies.now }
     requires idle { (k : ℕ) → k < length cells.now → is_one_of waiting.old k ≡ false
         → ¬ IsFreeFace (is_left cells.now log.now.steps) (cell_at cells.now k) }
     ensures inside { IfSome result (λ t. t.0 < length cells.now) }
@@ -79,7 +65,7 @@ pub(crate) fn next_free<const P: u16>(
         if face >= cells.len() {
             continue;
         }
-        if let Some(coface) = free_coface(log, cells, cofaces, face) {
+        if let Some(coface) = free_coface(log, cells, tallies, face) {
             return Some((face, coface));
         }
     }

@@ -1,5 +1,5 @@
 //! Numbers that wait for their turn, in one of two orders.
-ghost use Rattle.std.specs.Prelude.{◌≡◌, ℕ, ◌<◌, ◌⊎◌, true, false, length, OnOk, IfOk, IfSome, IfNone};
+ghost use Rattle.std.specs.Prelude.{◌≡◌, ℕ, ◌<◌, ◌⊎◌, true, false, length, OnOk, IfSome, IfNone};
 ghost use Rattle.excision.specs.Left.{is_one_of};
 
 use std::alloc::{AllocError, Global};
@@ -23,18 +23,17 @@ impl Model for Front {
 }
 
 impl Front {
-    /// All numbers below a count wait, the least in front.
-    pub(crate) fn below(alloc: Global, count: u32, newest_first: bool) -> Result<Front, AllocError>
-        ensures { IfOk result (λ w. (n : ℕ) → n < count → is_one_of w n ≡ true) }
-    {
-        let mut numbers = VecDeque::with_capacity(alloc, count as usize)?;
-        for number in 0..count {
-            numbers.push_back(number)?;
-        }
+    /// None waits; there is room for so many.
+    pub(crate) fn new(alloc: Global, room: usize, newest_first: bool) -> Result<Front, AllocError> {
         Ok(Front {
-            numbers,
+            numbers: VecDeque::with_capacity(alloc, room)?,
             newest_first,
         })
+    }
+
+    /// Whether one more number comes in front of all others.
+    pub(crate) fn is_newest_first(&self) -> bool {
+        self.newest_first
     }
 
     /// One more number waits, before all others or behind them.
@@ -48,6 +47,16 @@ impl Front {
         } else {
             self.numbers.push_back(number)?;
         }
+        Ok(())
+    }
+
+    /// One more number waits behind all others.
+    pub(crate) fn push_last(&mut self, number: u32) -> Result<(), AllocError>
+        ensures kept { OnOk result ((n : ℕ) → is_one_of self.old n ≡ true
+            → is_one_of self.new n ≡ true) }
+        ensures added { OnOk result (is_one_of self.new number ≡ true) }
+    {
+        self.numbers.push_back(number)?;
         Ok(())
     }
 

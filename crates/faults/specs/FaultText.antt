@@ -47,20 +47,39 @@ abbrev pub fault_text : Fault → List ℕ
 fault_text NoTool = codes "error: words: no tool of that name\n"
 fault_text (NotAForm tool) = codes "error: words: not a form of " ++ tool ++ codes "\n"
 fault_text (CannotRead name) = codes "error: cannot read " ++ name ++ codes "\n"
-fault_text (BadText name place cause) = codes "error: " ++ name ++ codes ": byte " ++ decimal place ++ codes ": " ++ cause_text cause ++ codes "\n"
-fault_text (NotComplex name degree generator value at) = codes "error: " ++ name ++ codes ": dimension " ++ decimal degree
-    ++ codes ": # " ++ decimal generator ++ codes ": boundary of boundary has " ++ decimal value ++ codes " * " ++ decimal at ++ codes "\n"
-fault_text (Dimension name found before) = codes "error: " ++ name ++ codes ": dimension " ++ decimal found ++ codes ", but " ++ decimal before ++ codes " before\n"
-fault_text (Limit count number) = codes "error: limit: " ++ limit_name count ++ codes ": " ++ decimal number ++ codes "\n"
+fault_text (BadText name place cause) =
+    codes "error: " ++ name ++ codes ": byte " ++ decimal place ++ codes ": " ++ cause_text cause
+    ++ codes "\n"
+fault_text (NotComplex name degree generator value at) =
+    codes "error: " ++ name ++ codes ": dimension " ++ decimal degree
+    ++ codes ": # " ++ decimal generator ++ codes ": boundary of boundary has " ++ decimal value
+    ++ codes " * " ++ decimal at ++ codes "\n"
+fault_text (Dimension name found before) =
+    codes "error: " ++ name ++ codes ": dimension " ++ decimal found ++ codes ", but "
+    ++ decimal before ++ codes " before\n"
+fault_text (Limit count number) =
+    codes "error: limit: " ++ limit_name count ++ codes ": " ++ decimal number ++ codes "\n"
 fault_text (Undefined cube) = codes "error: map: no value at " ++ cube_text cube ++ codes "\n"
-fault_text (LeavesRange cube value) = codes "error: map: " ++ pair_text cube value ++ codes " leaves the range\n"
-fault_text (LeavesSubset cube value) = codes "error: map: " ++ pair_text cube value ++ codes " leaves the range's subset\n"
-fault_text (EmptyValue cell) = codes "error: map: value at " ++ cell_text cell ++ codes " is empty\n"
-fault_text (NotAcyclic cell degree cycle cocycle) = codes "error: map: value at " ++ cell_text cell ++ codes " is not acyclic in degree " ++ decimal degree
-    ++ codes ": cycle " ++ chain_text cell_text cycle ++ codes ", cocycle " ++ chain_text cell_text cocycle ++ codes "\n"
-fault_text (NotInRange cube) = codes "error: index: " ++ cube_text cube ++ codes " is not in the range\n"
-fault_text (NotInSubset cube) = codes "error: index: " ++ cube_text cube ++ codes " is not in the range's subset\n"
-fault_text (Killed degree chain) = codes "error: index: degree " ++ decimal degree ++ codes ": killed: " ++ chain_text cell_text chain ++ codes "\n"
-fault_text (Missed degree chain) = codes "error: index: degree " ++ decimal degree ++ codes ": missed: " ++ chain_text cell_text chain ++ codes "\n"
+fault_text (LeavesRange cube value) =
+    codes "error: map: " ++ pair_text cube value ++ codes " leaves the range\n"
+fault_text (LeavesSubset cube value) =
+    codes "error: map: " ++ pair_text cube value ++ codes " leaves the range's subset\n"
+fault_text (EmptyValue cell) =
+    codes "error: map: value at " ++ cell_text cell ++ codes " is empty\n"
+fault_text (NotAcyclic cell degree cycle cocycle) =
+    codes "error: map: value at " ++ cell_text cell ++ codes " is not acyclic in degree "
+    ++ decimal degree
+    ++ codes ": cycle " ++ chain_text cell_text cycle ++ codes ", cocycle "
+    ++ chain_text cell_text cocycle ++ codes "\n"
+fault_text (NotInRange cube) =
+    codes "error: index: " ++ cube_text cube ++ codes " is not in the range\n"
+fault_text (NotInSubset cube) =
+    codes "error: index: " ++ cube_text cube ++ codes " is not in the range's subset\n"
+fault_text (Killed degree chain) =
+    codes "error: index: degree " ++ decimal degree ++ codes ": killed: "
+    ++ chain_text cell_text chain ++ codes "\n"
+fault_text (Missed degree chain) =
+    codes "error: index: degree " ++ decimal degree ++ codes ": missed: "
+    ++ chain_text cell_text chain ++ codes "\n"
 fault_text CannotWriteOut = codes "error: cannot write standard output\n"
 fault_text OutOfMemory = codes "error: out of memory\n"

@@ -27,11 +27,18 @@ end_test false z = is_file_end z
 
 -- a piece does in a corner what the reading does
 abbrev pub LeadsIn : Bool → List ℤ → Piece → CornerStep → Type 0
-LeadsIn full xs p (More corner) = (ys : List ℤ) × IsCorner corner ys × ((more : List ℤ → Open) (close : Step) → in_corner (end_test full) more close xs p ≡ goes (more ys))
-LeadsIn full xs p Close = (more : List ℤ → Open) (close : Step) → in_corner (end_test full) more close xs p ≡ close
-LeadsIn full xs p (Stop cause) = (more : List ℤ → Open) (close : Step) → in_corner (end_test full) more close xs p ≡ stops cause
+LeadsIn full xs p (More corner) =
+    (ys : List ℤ) × IsCorner corner ys ×
+    ((more : List ℤ → Open) (close : Step)
+    → in_corner (end_test full) more close xs p ≡ goes (more ys))
+LeadsIn full xs p Close =
+    (more : List ℤ → Open) (close : Step) → in_corner (end_test full) more close xs p ≡ close
+LeadsIn full xs p (Stop cause) =
+    (more : List ℤ → Open) (close : Step) → in_corner (end_test full) more close xs p ≡ stops cause
 
 -- the cell of a cube whose corners have at most so many numbers, or why there is none
 abbrev pub IsCellOf : ℕ → Option (List Factor) → Result (List Factor) TextCause → Type 0
-IsCellOf numbers q (Ok cell) = (q ≡ Some cell) × (numbers ≤ MAX_EMBEDDING) × (list_all is_file_factor cell ≡ true)
-IsCellOf numbers q (Err cause) = (kind : Kind) (set : Members) → cube_cause kind set numbers q ≡ Some cause
+IsCellOf numbers q (Ok cell) =
+    (q ≡ Some cell) × (numbers ≤ MAX_EMBEDDING) × (list_all is_file_factor cell ≡ true)
+IsCellOf numbers q (Err cause) =
+    (kind : Kind) (set : Members) → cube_cause kind set numbers q ≡ Some cause

@@ -15,7 +15,8 @@ use Rattle.grid_files.specs.declared.fault.TextCause.TheVariants.{BadByte, BadNu
 use Rattle.grid_files.specs.declared.piece.Piece.{Piece}
 use Rattle.grid_files.specs.declared.piece.Piece.TheVariants.{Number, Wide, Mark, SkippedLine, DimensionWord, DimensionNumber}
 
--- An item: a full cube by its lower corner, an elementary cube by both corners, a dimension line, a skipped line.
+-- An item: a full cube by its lower corner, an elementary cube by both corners, a dimension line, a
+-- skipped line.
 pub data Item : Type 0 where
   full : List ℤ → Item
   elementary : List ℤ → List ℤ → Item
@@ -29,7 +30,8 @@ opened xs = Mark 40 ∷ map Number xs
 abbrev pub closed : List ℤ → List Piece
 closed xs = opened xs ++ Mark 41 ∷ []
 
--- The pieces of an item: `(x1 .. xn)`, `[(l1 .. ln)(u1 .. un)]`, `dimension` and a number, another word.
+-- The pieces of an item: `(x1 .. xn)`, `[(l1 .. ln)(u1 .. un)]`, `dimension` and a number, another
+-- word.
 abbrev pub spelling : Item → List Piece
 spelling (full xs) = closed xs
 spelling (elementary ls us) = Mark 91 ∷ closed ls ++ closed us ++ Mark 93 ∷ []
@@ -55,7 +57,8 @@ fits (elementary ls us) = fits_corner is_file_end ls && fits_corner is_file_end 
 fits (dimension_line z) = true
 fits skipped_line = true
 
--- The beginning of an item, up to where the next piece stands: `(..`, `[`, `[(..`, `[(..)`, `[(..)(..`, `[(..)(..)`, `dimension`.
+-- The beginning of an item, up to where the next piece stands: `(..`, `[`, `[(..`, `[(..)`,
+-- `[(..)(..`, `[(..)(..)`, `dimension`.
 pub data Open : Type 0 where
   nothing : Open
   in_full : List ℤ → Open
@@ -87,7 +90,8 @@ fits_open (in_upper ls us) = fits_corner is_file_end ls && list_all is_file_end 
 fits_open (before_end ls us) = fits_corner is_file_end ls && fits_corner is_file_end us
 fits_open behind_word = true
 
--- Why a piece cannot stand behind some numbers of a corner: a number may, and behind one number the closing mark.
+-- Why a piece cannot stand behind some numbers of a corner: a number may, and behind one number the
+-- closing mark.
 abbrev pub refused_in_corner : (ℤ → Bool) → List ℤ → Piece → Option TextCause
 refused_in_corner test xs (Number z) = if test z then None else Some CoordinateTooLarge
 refused_in_corner test xs Wide = Some BadNumber
@@ -116,7 +120,8 @@ refused behind_word p = Some BadNumber
 
 -- The factor between two ends, the cell between two corners, if there is one.
 abbrev pub factor_between : ℤ → ℤ → Option Factor
-factor_between l u = if int_eq l u then Some (point l) else if int_eq (l +ℤ pos 1) u then Some (interval l) else None
+factor_between l u =
+    if int_eq l u then Some (point l) else if int_eq (l +ℤ pos 1) u then Some (interval l) else None
 
 abbrev pub in_front : Option Factor → Option (List Factor) → Option (List Factor)
 in_front None q = None
@@ -129,7 +134,8 @@ cell_between [] (u ∷ us) = None
 cell_between (l ∷ ls) [] = None
 cell_between (l ∷ ls) (u ∷ us) = in_front (factor_between l u) (cell_between ls us)
 
--- Why a cell cannot join a set, in this order: another dimension is known, full cubes alone are wanted, there are too many.
+-- Why a cell cannot join a set, in this order: another dimension is known, full cubes alone are
+-- wanted, there are too many.
 abbrev pub is_wanted : Kind → List Factor → Bool
 is_wanted Any q = true
 is_wanted Full q = list_all is_wide q
@@ -140,10 +146,13 @@ cell_cause kind set q =
     else if not (is_wanted kind q) then Some NotFull
     else if nat_lt most_members (length (inserted cell_cmp q set.cells)) then Some TooMany else None
 
--- Why a cube of corners of at most so many numbers is refused, where these are the corners of this cell, or of none.
+-- Why a cube of corners of at most so many numbers is refused, where these are the corners of this
+-- cell, or of none.
 abbrev pub cube_cause : Kind → Members → ℕ → Option (List Factor) → Option TextCause
-cube_cause kind set numbers None = if nat_lt most_factors numbers then Some DimensionTooLarge else Some NotElementary
-cube_cause kind set numbers (Some q) = if nat_lt most_factors numbers then Some DimensionTooLarge else cell_cause kind set q
+cube_cause kind set numbers None =
+    if nat_lt most_factors numbers then Some DimensionTooLarge else Some NotElementary
+cube_cause kind set numbers (Some q) =
+    if nat_lt most_factors numbers then Some DimensionTooLarge else cell_cause kind set q
 
 -- Why the number of a dimension line is refused.
 abbrev pub dimension_cause : Members → ℤ → Option TextCause
@@ -155,7 +164,8 @@ dimension_cause set (pos n) =
 -- Why an item is refused behind items that made this set, if it is.
 abbrev pub cause_of : Kind → Members → Item → Option TextCause
 cause_of kind set (full xs) = cube_cause kind set (length xs) (Some (full_cell xs))
-cause_of kind set (elementary ls us) = cube_cause kind set (max (length ls) (length us)) (cell_between ls us)
+cause_of kind set (elementary ls us) =
+    cube_cause kind set (max (length ls) (length us)) (cell_between ls us)
 cause_of kind set (dimension_line z) = dimension_cause set z
 cause_of kind set skipped_line = None
 

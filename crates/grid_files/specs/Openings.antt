@@ -24,7 +24,8 @@ IsOpening opening o = ⊥
 
 abbrev pub IsClosing : Closing → Item → Type 0
 IsClosing (closing.Full corner) (full xs) = IsCorner corner xs
-IsClosing (closing.Elementary lower upper) (elementary ls us) = IsCorner lower ls × IsCorner upper us
+IsClosing (closing.Elementary lower upper) (elementary ls us) =
+    IsCorner lower ls × IsCorner upper us
 IsClosing (closing.Dimension z) (dimension_line y) = z ≡ y
 IsClosing closing.Skipped skipped_line = Unit {0}
 IsClosing c i = ⊥

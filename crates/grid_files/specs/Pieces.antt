@@ -37,8 +37,8 @@ numbered place arrow ts = (place, NoNumber) ∷ []
 numbered place (word w) ts = (place, NoNumber) ∷ []
 numbered place (other b) ts = (place, NoNumber) ∷ []
 
--- The rest of the line behind the word `dimension`. The number stands at its first byte that is no blank; a comment is no number,
--- nor is the end of the line.
+-- The rest of the line behind the word `dimension`. The number stands at its first byte that is no
+-- blank; a comment is no number, nor is the end of the line.
 abbrev pub number_line : ℕ → List ℕ → List (ℕ × Piece)
 number_line place [] = (place, NoNumber) ∷ []
 number_line place (b ∷ bs) = if is_blank b then number_line (place + 1) bs
@@ -47,16 +47,19 @@ number_line place (b ∷ bs) = if is_blank b then number_line (place + 1) bs
 -- A word at a place, whose letters are b and then those of bs, with the rest of its line.
 abbrev pub word_line : ℕ → ℕ → List ℕ → List (ℕ × Piece)
 word_line place b bs = if is_dimension (b ∷ letters_of bs)
-    then (place, DimensionWord) ∷ number_line (place + 1 + length (letters_of bs)) (drop (length (letters_of bs)) (line_of bs))
+    then (place, DimensionWord) ∷ number_line (place + 1 + length (letters_of bs))
+    (drop (length (letters_of bs)) (line_of bs))
     else (place, SkippedLine) ∷ []
 
--- The pieces of a text whose first byte has that place, behind so many bytes that belong to what stands before.
+-- The pieces of a text whose first byte has that place, behind so many bytes that belong to what
+-- stands before.
 abbrev pub pieces_behind : ℕ → ℕ → List ℕ → List (ℕ × Piece)
 pieces_behind skipped place [] = []
 pieces_behind (suc skipped) place (b ∷ bs) = pieces_behind skipped (place + 1) bs
 pieces_behind zero place (b ∷ bs) = if is_blank b then pieces_behind 0 (place + 1) bs
     else if b == 59 then pieces_behind (length (line_of bs)) (place + 1) bs
-    else if is_ascii_alphabetic b then word_line place b bs ++ pieces_behind (length (line_of bs)) (place + 1) bs
+    else if is_ascii_alphabetic b then word_line place b bs
+    ++ pieces_behind (length (line_of bs)) (place + 1) bs
     else (place, piece_of (lexeme_at b bs)) ∷ pieces_behind (size_behind b bs) (place + 1) bs
 
 -- The pieces of a whole text, with their places.

@@ -17,9 +17,11 @@ pub data Step : Type 0 where
   stops : TextCause → Step
 
 abbrev pub in_corner : (ℤ → Bool) → (List ℤ → Open) → Step → List ℤ → Piece → Step
-in_corner test more close xs (Number z) = if test z then goes (more (xs ++ z ∷ [])) else stops CoordinateTooLarge
+in_corner test more close xs (Number z) =
+    if test z then goes (more (xs ++ z ∷ [])) else stops CoordinateTooLarge
 in_corner test more close xs Wide = stops BadNumber
-in_corner test more close xs (Mark b) = if b == 41 && not (is_empty xs) then close else stops BadByte
+in_corner test more close xs (Mark b) =
+    if b == 41 && not (is_empty xs) then close else stops BadByte
 in_corner test more close xs p = stops BadByte
 
 abbrev pub for_mark : ℕ → Step → Piece → Step
@@ -27,7 +29,8 @@ for_mark wanted found (Mark b) = if b == wanted then found else stops BadByte
 for_mark wanted found p = stops BadByte
 
 abbrev pub step : Open → Piece → Step
-step nothing (Mark b) = if b == 40 then goes (in_full []) else if b == 91 then goes before_lower else stops BadByte
+step nothing (Mark b) =
+    if b == 40 then goes (in_full []) else if b == 91 then goes before_lower else stops BadByte
 step nothing SkippedLine = closes skipped_line
 step nothing DimensionWord = goes behind_word
 step nothing p = stops BadByte
@@ -67,5 +70,6 @@ abbrev pub read : Kind → Members → Open → ℕ → List (ℕ × Piece) → 
 read kind set o start [] = if is_open o then Err (start, Unclosed) else Ok set
 read kind set o start (p ∷ ps) = next (step o p.1)
     (λ o'. read kind set o' (start_of o start p.0) ps)
-    (λ i. judged (cause_of kind set i) (λ c. Err (closing_place i (start_of o start p.0) p.0, c)) (read kind (with_item set i) nothing 0 ps))
+    (λ i. judged (cause_of kind set i) (λ c. Err (closing_place i (start_of o start p.0) p.0, c))
+    (read kind (with_item set i) nothing 0 ps))
     (λ c. Err (p.0, c))

@@ -1,5 +1,5 @@
--- Where a text is refused: what stands before has a value, what stands open there begins an item, and with the piece or the item that
--- is refused nothing goes on to a value.
+-- Where a text is refused: what stands before has a value, what stands open there begins an item,
+-- and with the piece or the item that is refused nothing goes on to a value.
 use Rattle.std.specs.Prelude.{◌≡◌, ◌⊎◌, ℕ, List, [], ◌∷◌, ◌++◌, true}
 use Rattle.cube_sets.specs.Sets.{Members}
 use Rattle.grid_files.specs.Items.{Item, spelling, fits}
@@ -53,8 +53,11 @@ pub record RefusedFirst (kind : Kind) (text : List ℕ) (place : ℕ) (cause : T
   pub set : Members
   pub value : HaveValue kind front set
   pub begin : BeginItem here
-  pub refused : LeftOpen here rest place cause ⊎ (PieceRefused kind (front ++ here) rest place ⊎ ItemRefused kind front here place)
+  pub refused : LeftOpen here rest place cause
+      ⊎ (PieceRefused kind (front ++ here) rest place ⊎ ItemRefused kind front here place)
 
 -- each refusal is of that kind
 abbrev pub RefusalsAreFirst : Type 0
-RefusalsAreFirst = (kind : Kind) (text : List ℕ) (place : ℕ) (cause : TextCause) → IsRefusedAt kind text place cause → RefusedFirst kind text place cause
+RefusalsAreFirst =
+    (kind : Kind) (text : List ℕ) (place : ℕ) (cause : TextCause)
+    → IsRefusedAt kind text place cause → RefusedFirst kind text place cause

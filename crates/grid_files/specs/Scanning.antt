@@ -34,16 +34,20 @@ left Between place bs = pieces_behind 0 place bs
 left Line place bs = behind_line place bs
 left (Dash at) place bs = (at, piece_of (dashed bs)) ∷ pieces_behind (dashed_size bs) place bs
 left (Digits at negative value) place bs =
-    (at, piece_of (number_of negative (digits_value value (digits_of bs)))) ∷ pieces_behind (length (digits_of bs)) place bs
+    (at, piece_of (number_of negative (digits_value value (digits_of bs)))) ∷ pieces_behind
+    (length (digits_of bs)) place bs
 left (Word at matched) place bs =
     (if pointwise nat_eq (drop matched DIMENSION) (letters_of bs)
-    then (at, DimensionWord) ∷ number_line (place + length (letters_of bs)) (drop (length (letters_of bs)) (line_of bs))
+    then (at, DimensionWord) ∷ number_line (place + length (letters_of bs))
+    (drop (length (letters_of bs)) (line_of bs))
     else (at, SkippedLine) ∷ []) ++ behind_line place bs
 left Behind place bs = number_line place (line_of bs) ++ behind_line place bs
 left (BehindDash at) place bs =
-    numbered at (dashed (line_of bs)) (tokens_behind (dashed_size (line_of bs)) place (line_of bs)) ++ behind_line place bs
+    numbered at (dashed (line_of bs)) (tokens_behind (dashed_size (line_of bs)) place (line_of bs))
+    ++ behind_line place bs
 left (BehindDigits at negative value) place bs =
-    numbered at (number_of negative (digits_value value (digits_of (line_of bs)))) (tokens_behind (length (digits_of (line_of bs))) place (line_of bs))
+    numbered at (number_of negative (digits_value value (digits_of (line_of bs))))
+    (tokens_behind (length (digits_of (line_of bs))) place (line_of bs))
     ++ behind_line place bs
 left AfterNumber place bs = stray_of (tokens_behind 0 place (line_of bs)) ++ behind_line place bs
 
@@ -61,4 +65,6 @@ IsCarry AfterNumber = Unit {0}
 
 -- a byte tells at most two pieces, and leaves a carry
 abbrev pub Scans : Carry → ℕ → ℕ → Carry → Option (ℕ × Piece) → Option (ℕ × Piece) → Type 0
-Scans before place b now first second = (bs : List ℕ) → left before place (b ∷ bs) ≡ listed first (listed second (left now (place + 1) bs))
+Scans before place b now first second =
+    (bs : List ℕ) → left before place (b ∷ bs) ≡ listed first
+    (listed second (left now (place + 1) bs))

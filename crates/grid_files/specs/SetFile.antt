@@ -30,7 +30,8 @@ Splits (item ∷ items) ps rest =
 -- None of these items is refused, and they make the second set of the first.
 abbrev pub Gathers : Kind → Members → List Item → Members → Type 0
 Gathers kind set [] all = all ≡ set
-Gathers kind set (item ∷ items) all = (cause_of kind set item ≡ None) × Gathers kind (with_item set item) items all
+Gathers kind set (item ∷ items) all =
+    (cause_of kind set item ≡ None) × Gathers kind (with_item set item) items all
 
 -- Nothing is known before the first item.
 abbrev pub no_members : Members
@@ -38,7 +39,8 @@ no_members = record { dimension = 0; cells = [] }
 
 -- The text has this value: it splits into items, and none of them is refused.
 abbrev pub HasValue : Kind → List ℕ → Members → Type 0
-HasValue kind text set = (items : List Item) × Splits items (pieces text) [] × Gathers kind no_members items set
+HasValue kind text set =
+    (items : List Item) × Splits items (pieces text) [] × Gathers kind no_members items set
 
 -- The place of an item's fault: a cube's first byte, and the number of a dimension line.
 abbrev pub fault_place : Item → List (ℕ × Piece) → ℕ
@@ -46,7 +48,8 @@ fault_place (dimension_line z) (p ∷ ps) = first_place ps
 fault_place item ps = first_place ps
 
 -- The pieces begin with an item that is refused as a whole.
-pub record BeginsRefused (kind : Kind) (set : Members) (ps : List (ℕ × Piece)) (place : ℕ) (cause : TextCause) : Type 0 where
+pub record BeginsRefused (kind : Kind) (set : Members) (ps : List (ℕ × Piece)) (place : ℕ)
+    (cause : TextCause) : Type 0 where
   pub item : Item
   pub here : List (ℕ × Piece)
   pub more : List (ℕ × Piece)
@@ -65,8 +68,8 @@ is_open (in_upper ls us) = true
 is_open (before_end ls us) = true
 is_open behind_word = true
 
--- Behind the beginning of an item stands a piece that has no reading there, or the end of the text: that is told at the item's
--- first byte.
+-- Behind the beginning of an item stands a piece that has no reading there, or the end of the text:
+-- that is told at the item's first byte.
 abbrev pub StopsAt : Open → ℕ → List (ℕ × Piece) → ℕ → TextCause → Type 0
 StopsAt begun start [] place cause = (is_open begun ≡ true) × (place ≡ start) × (cause ≡ Unclosed)
 StopsAt begun start (p ∷ ps) place cause = (place ≡ p.0) × (refused begun p.1 ≡ Some cause)
@@ -82,7 +85,8 @@ pub record BeginsBroken (ps : List (ℕ × Piece)) (place : ℕ) (cause : TextCa
   pub stops : StopsAt begun (first_place here) more place cause
 
 -- Behind items that are not refused the pieces begin no item, or one that is refused.
-pub record Refuses (kind : Kind) (before : Members) (ps : List (ℕ × Piece)) (place : ℕ) (cause : TextCause) : Type 0 where
+pub record Refuses (kind : Kind) (before : Members) (ps : List (ℕ × Piece)) (place : ℕ)
+    (cause : TextCause) : Type 0 where
   pub items : List Item
   pub set : Members
   pub rest : List (ℕ × Piece)

@@ -9,7 +9,9 @@ use Rattle.grid_files.specs.Pieces.{keyword}
 
 -- a full cube by its lower corner, any other cell by both corners
 abbrev pub cell_text : List Factor → List ℕ
-cell_text q = if list_all is_wide q then corner_text (lower_of q) else 91 ∷ corner_text (lower_of q) ++ corner_text (upper_of q) ++ 93 ∷ []
+cell_text q =
+    if list_all is_wide q then corner_text (lower_of q) else 91 ∷ corner_text (lower_of q)
+    ++ corner_text (upper_of q) ++ 93 ∷ []
 
 abbrev pub cell_line : List Factor → List ℕ
 cell_line q = cell_text q ++ 10 ∷ []

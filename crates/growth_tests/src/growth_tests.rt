@@ -1,4 +1,5 @@
-//! A segment, a square and nine squares, with subsets in their middle, at a corner, around, far away, and whole.
+//! A segment, a square and nine squares, with subsets in their middle, at a corner, around, far away,
+//! and whole.
 use cube_sets::CubeSet;
 use excision::excise;
 use field_mod::Field;

@@ -1,9 +1,9 @@
 -- The contraction to the cycles of a basis.
-use Rattle.std.proofs.Common.{◌≡◌, ◌≢◌, ℕ, ◌+◌, ◌*◌, ◌<◌, ◌≤◌, sym, ap, ◌∙◌, arith, List, [], ◌∷◌, length, get_or, subst}
+use Rattle.std.proofs.Common.{◌≡◌, ℕ, ◌+◌, ◌*◌, ◌<◌, arith, List, length, get_or, subst}
 use Rattle.field_mod.specs.Sums.{total}
 use Rattle.field_mod.specs.Modular.{Same}
-use Rattle.field_mod.proofs.Sums.{total-same, total_same}
-use Rattle.field_mod.proofs.Modular.{same_refl, same_sym, same_trans, same-add, same-scale, same-mul}
+use Rattle.field_mod.proofs.Sums.{total_same}
+use Rattle.field_mod.proofs.Modular.{same_refl, same_sym, same_trans, same-add, same-mul}
 use Rattle.chains.specs.Homology.{IsChain}
 use Rattle.chains.specs.ChainComplex.{ChainComplex, IsComplex, system, incidence, boundary}
 use Rattle.algebraic_reduction.specs.Reduction.{single, Step}

@@ -1,15 +1,15 @@
 -- The cocycles of a basis: what they give the cycles, the boundaries and the generators.
-use Rattle.std.proofs.Common.{◌≡◌, ◌≢◌, ℕ, zero, suc, ◌+◌, ◌*◌, ◌<◌, ◌≤◌, ◌^◌, ◌==◌, if◌then◌else◌, refl, sym, ap, ◌∙◌, arith, ⊎_elim, cond, eqb, eq-eqb, ne_eqb, List, [], ◌∷◌, length, get_or, true, false}
+use Rattle.std.proofs.Common.{◌≡◌, ◌≢◌, ℕ, ◌+◌, ◌*◌, ◌<◌, ◌≤◌, ◌^◌, ◌==◌, if◌then◌else◌, refl, sym, ap, ◌∙◌, arith, ⊎_elim, cond, eqb, eq-eqb, ne_eqb, List, [], ◌∷◌, length, get_or}
 use Rattle.std.proofs.lemmas.Bool.{cases_eq, cases_lt, le-ltb, ltb-false}
 use Rattle.field_mod.specs.Sums.{total}
 use Rattle.field_mod.specs.Modular.{Same}
-use Rattle.field_mod.proofs.Sums.{total-same, total-zero, total-scale, total_same}
-use Rattle.field_mod.proofs.Modular.{same_by, same_refl, same_sym, same_trans, same-add, same-scale, same-mul}
+use Rattle.field_mod.proofs.Sums.{total-zero, total-scale, total_same}
+use Rattle.field_mod.proofs.Modular.{same_refl, same_sym, same_trans, same-scale, same-mul}
 use Rattle.chains.specs.Terms.{coefficient, product, IsNormal, IsNormalWithin}
 use Rattle.chains.specs.Homology.{IsChain}
 use Rattle.chains.specs.ChainComplex.{ChainComplex, IsComplex, system, incidence, boundary}
 use Rattle.chains.proofs.Boundary.{product-total}
-use Rattle.algebraic_reduction.specs.Reduction.{single, Step, IsUnpaired, IsOnLeft, boundary_by}
+use Rattle.algebraic_reduction.specs.Reduction.{single, Step}
 use Rattle.algebraic_reduction.specs.Laws.{IsReduction, IsLeft, NothingLeft, include_of, project_of, left_of, left_boundary_of}
 use Rattle.algebraic_reduction.proofs.LinearMaps.{exact, of_generators, single-other, single-self}
 use Rattle.algebraic_reduction.proofs.Singles.{single_left, single_chain, incidence_off, boundary_single}

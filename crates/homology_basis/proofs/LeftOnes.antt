@@ -1,18 +1,16 @@
 -- Generators as chains, and chains on the generators of one degree that the steps leave.
-use Rattle.std.proofs.Common.{◌≡◌, ◌≢◌, ℕ, zero, suc, ◌+◌, ◌*◌, ◌<◌, ◌≤◌, ◌⊎◌, inl, inr, sym, ap, ◌∙◌, arith, ⊎_elim, cond, eqb, eq-eqb, ne_eqb, List, [], ◌∷◌, length, get_or, subst, true, false}
-use Rattle.std.proofs.lemmas.Bool.{cases_eq, cases_lt, le-ltb, ltb-false}
+use Rattle.std.proofs.Common.{◌≡◌, ◌≢◌, ℕ, zero, suc, ◌*◌, ◌<◌, ◌⊎◌, inl, inr, sym, ap, ◌∙◌, arith, ⊎_elim, cond, eqb, eq-eqb, ne_eqb, List, length, get_or, subst}
+use Rattle.std.proofs.lemmas.Bool.{cases_eq, cases_lt, le-ltb}
 use Rattle.field_mod.specs.Sums.{total}
 use Rattle.field_mod.specs.Modular.{Same}
 use Rattle.field_mod.proofs.Sums.{total-same, total-zero, total-single}
-use Rattle.field_mod.proofs.Modular.{same_refl, same_trans}
+use Rattle.field_mod.proofs.Modular.{same_trans}
 use Rattle.chains.specs.Homology.{IsChain}
-use Rattle.chains.specs.ChainComplex.{ChainComplex, IsComplex, system, incidence, boundary}
-use Rattle.chains.proofs.Numbered.{degree_above}
-use Rattle.algebraic_reduction.specs.Reduction.{single, Step, IsUnpaired, IsOnLeft}
+use Rattle.chains.specs.ChainComplex.{ChainComplex, system}
+use Rattle.algebraic_reduction.specs.Reduction.{single, Step, IsOnLeft}
 use Rattle.algebraic_reduction.specs.Laws.{IsLeft}
 use Rattle.algebraic_reduction.proofs.LeftBasis.{off_paired}
-use Rattle.algebraic_reduction.proofs.LinearMaps.{exact, single-other, total_picked_other}
-use Rattle.algebraic_reduction.proofs.Singles.{on_left}
+use Rattle.algebraic_reduction.proofs.LinearMaps.{exact, single-other}
 
 not_at : (m : ℕ) (at : ℕ → ℕ) (h : ℕ) → at 0 ≢ h → ((i : ℕ) → i < m → at (suc i) ≢ h) → (i : ℕ) → i < suc m → at i ≢ h
 not_at m at h f none zero q = f

@@ -1,9 +1,11 @@
 -- The cells that a log leaves, listed
-use Rattle.std.proofs.Common.{◌≡◌, ℕ, ◌+◌, ◌<◌, ◌≤◌, refl, sym, ap, ◌∙◌, List, [], ◌∷◌, ◌++◌, length, take, cond, true, false, Bool, subst}
+use Rattle.std.proofs.Common.{◌≡◌, ℕ, ◌+◌, ◌<◌, ◌≤◌, refl, sym, ap, ◌∙◌, List, [], ◌∷◌, ◌++◌, length, length-append, take, cond, get_or, true, false, Bool, subst, arith, ⊎_elim}
+use Rattle.std.specs.Prelude.{◌↔◌, IsTrue}
+use Rattle.std.proofs.Math.Seq.{get_or-append_seam}
 use Rattle.std.specs.List.{filter}
 use Rattle.std.specs.List.Sorted.{IsStrictlySortedBy}
-use Rattle.std.proofs.lemmas.Bool.{false_from_ne_true}
-use Rattle.std.proofs.lemmas.List.{take_all}
+use Rattle.std.proofs.lemmas.Bool.{true≢false, cases_lt, false_from_ne_true}
+use Rattle.std.proofs.lemmas.List.{take_all, get_or_append_left}
 use Rattle.std.proofs.lemmas.List.Elements.{filter_more}
 use Rattle.std.proofs.lemmas.List.Kept.{IsStrictlySortedBy-filter}
 use Rattle.elem_cubes.specs.Cells.{Factor}
@@ -16,6 +18,7 @@ use Rattle.cell_complex.specs.Numbering.{number_of}
 use Rattle.cell_complex.proofs.Meeting.{filtered}
 use Rattle.cell_complex.proofs.Numbering.{number_at}
 use Rattle.excision.specs.Left.{is_unpaired, is_left}
+use Rattle.homology_basis.specs.Marks.{TellLeft}
 use Rattle.excision.proofs.Leaving.{listing, test_unpaired, unpaired_test}
 
 abbrev pub RemainTo : List (List Factor) → List Step → List (List Factor) → ℕ → Type 0
@@ -53,3 +56,25 @@ module _ (cells : List (List Factor)) (ss : List Step) (sorted : IsSortedCells c
 
     pub remain_sorted : IsStrictlySortedBy cell_cmp left
     remain_sorted = subst (λ (xs : List (List Factor)). IsStrictlySortedBy cell_cmp xs) (sym all_left) (IsStrictlySortedBy-filter cell_cmp keeps cells sorted.sorted)
+
+-- ---- marks
+
+alive_is : (b : Bool) (ss : List Step) (n : ℕ) → IsTrue b ↔ IsUnpaired ss n → b ≡ is_unpaired ss n
+alive_is true ss n e = sym (test_unpaired ss n (e.0 refl))
+alive_is false ss n e = sym (false_from_ne_true (is_unpaired ss n) (λ t. true≢false (sym (e.1 (unpaired_test ss n t)))))
+
+pub count_more : (marks now : List Bool) (n : ℕ) (b : Bool) → length marks ≡ n → now ≡ marks ++ b ∷ [] → length now ≡ n + 1
+count_more marks now n b e is = ap length is ∙ length-append marks (b ∷ []) ∙ ap (λ k. k + 1) e
+
+pub mark_more : (ss : List Step) (marks now : List Bool) (n : ℕ) (b : Bool) → length marks ≡ n → TellLeft n ss marks → now ≡ marks ++ b ∷ [] → IsTrue b ↔ IsUnpaired ss n → TellLeft (n + 1) ss now
+mark_more ss marks now n b e t is a k l = ap (λ (ms : List Bool). get_or ms k false) is ∙ ⊎_elim
+    (λ lt. get_or_append_left marks (b ∷ []) false k (omega arith) ∙ t k lt)
+    (λ ge. let q : k ≡ length marks = omega arith in
+    ap (λ (i : ℕ). get_or (marks ++ b ∷ []) i false) q ∙ get_or-append_seam marks b [] false ∙ alive_is b ss n a ∙ ap (is_unpaired ss) (sym (q ∙ e)))
+    (cases_lt k n)
+
+pub not_marked : (ss : List Step) (marks : List Bool) (n m : ℕ) → TellLeft m ss marks → n < m → get_or marks n false ≡ false → ¬ IsUnpaired ss n
+not_marked ss marks n m t l e u = true≢false (sym (test_unpaired ss n u) ∙ sym (t n l) ∙ e)
+
+pub is_marked : (ss : List Step) (marks : List Bool) (n m : ℕ) → TellLeft m ss marks → n < m → get_or marks n false ≡ true → IsUnpaired ss n
+is_marked ss marks n m t l e = unpaired_test ss n (sym (t n l) ∙ e)

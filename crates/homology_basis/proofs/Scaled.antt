@@ -1,10 +1,9 @@
 -- A basis stays one where each chain is multiplied by a number that has an inverse.
-use Rattle.std.proofs.Common.{◌≡◌, ℕ, ◌+◌, ◌*◌, ◌<◌, arith, true, false}
-use Rattle.field_mod.specs.Sums.{total}
+use Rattle.std.proofs.Common.{ℕ, ◌*◌, ◌<◌, arith}
 use Rattle.field_mod.specs.Modular.{Same}
 use Rattle.field_mod.proofs.Sums.{total_same}
-use Rattle.field_mod.proofs.Modular.{same_by, same_refl, same_sym, same_trans, same-add, same-scale, same-mul}
-use Rattle.chains.specs.Homology.{System, IsChain, IsCycle, IsNull, IsBasis, IsBoundaryOperator, combination}
+use Rattle.field_mod.proofs.Modular.{same_refl, same_sym, same_trans, same-add, same-scale}
+use Rattle.chains.specs.Homology.{System, IsChain, IsCycle, IsBasis, IsBoundaryOperator, combination}
 use Rattle.chains.proofs.Systems.{boundary-same, boundary-scale, null-same}
 use Rattle.algebraic_reduction.proofs.LinearMaps.{exact}
 

@@ -1,9 +1,9 @@
 -- The cycles that a log gives are one list: the generators that are left ascend, and each cycle begins with the coefficient 1
-use Rattle.std.proofs.Common.{◌≡◌, ◌≢◌, ℕ, zero, suc, ◌+◌, ◌*◌, ◌^◌, ◌<◌, ◌≤◌, refl, sym, ap, ◌∙◌, arith, ⊎_elim, List, [], ◌∷◌, length, get_or, subst}
-use Rattle.std.proofs.lemmas.Bool.{cases_lt, cases_eq}
+use Rattle.std.proofs.Common.{◌≡◌, ℕ, zero, suc, ◌*◌, ◌^◌, ◌<◌, ◌≤◌, refl, sym, ap, ◌∙◌, arith, ⊎_elim, List, [], ◌∷◌, length, get_or, subst}
+use Rattle.std.proofs.lemmas.Bool.{cases_lt}
 use Rattle.field_mod.specs.Modular.{Same}
 use Rattle.field_mod.proofs.Modular.{same_refl, same_sym, same_trans, same-scale, same-mul, one_nonzero}
-use Rattle.chains.specs.Terms.{coefficient, nth_chain, IsNormal, IsNormalWithin}
+use Rattle.chains.specs.Terms.{coefficient, IsNormal}
 use Rattle.chains.specs.ChainComplex.{ChainComplex}
 use Rattle.chains.proofs.TermLists.{coefficient-below, coefficient-lt, raised, one_list}
 use Rattle.algebraic_reduction.specs.Reduction.{single, Step}

@@ -1,5 +1,5 @@
 -- The classes of all generators that are left, where no boundary is left, are a basis with its cocycles and its contraction.
-use Rattle.std.proofs.Common.{◌≡◌, ◌≢◌, ℕ, ◌+◌, ◌*◌, ◌<◌, ◌≤◌, ◌==◌, if◌then◌else◌, sym, ap, ◌∙◌, arith, ⊎_elim, List, [], ◌∷◌, length, get_or, map, Bool, true, refl, subst}
+use Rattle.std.proofs.Common.{◌≡◌, ℕ, ◌+◌, ◌*◌, ◌<◌, ◌≤◌, ◌==◌, if◌then◌else◌, sym, ◌∙◌, arith, ⊎_elim, List, [], length, get_or, map, Bool, true, subst}
 use Rattle.std.proofs.lemmas.Bool.{cases_lt}
 use Rattle.std.proofs.lemmas.List.{length-map}
 use Rattle.std.proofs.lemmas.List as lists
@@ -10,11 +10,11 @@ use Rattle.chains.specs.Terms.{coefficient, product, nth_chain, IsNormal}
 use Rattle.chains.specs.Homology.{IsChain, IsBasis, combination}
 use Rattle.chains.specs.ChainComplex.{ChainComplex, IsComplex, IsBasisOf, system, incidence, boundary}
 use Rattle.chains.proofs.Numbered.{is_boundary_operator}
-use Rattle.algebraic_reduction.specs.Reduction.{single, Step, IsUnpaired}
-use Rattle.algebraic_reduction.specs.Laws.{AreStepsOf, IsReduction, IsLeft, NothingLeft, include_of, project_of, homotopy_of}
+use Rattle.algebraic_reduction.specs.Reduction.{single, Step}
+use Rattle.algebraic_reduction.specs.Laws.{IsReduction, IsLeft, NothingLeft, include_of, project_of, homotopy_of}
 use Rattle.algebraic_reduction.proofs.LeftBasis.{left_generators}
 use Rattle.homology_basis.specs.Bases.{BasisOfLog, in_degree, BeginsWithOne, AreDualCocycles, IsContraction, IsBasisByCycles, IsBasisWithContraction, AreInclusions}
-use Rattle.homology_basis.specs.Classes.{ClassOf, IsClass, AreClassesBelow, AreClasses, cycles_of, cocycles_of}
+use Rattle.homology_basis.specs.Classes.{ClassOf, AreClassesBelow, AreClasses, cycles_of, cocycles_of}
 use Rattle.homology_basis.proofs.Scaled.{scaled_basis}
 use Rattle.homology_basis.proofs.Dual.{is_cochain, product_cycle, product_boundary}
 use Rattle.algebraic_reduction.proofs.Singles.{single_chain}

@@ -1,9 +1,10 @@
 //! The relative complex of a pair: excised, grown, collapsed and reduced.
-ghost use Rattle.std.specs.Prelude.{◌≡◌, ◌<◌, ◌≤◌, ◌++◌, List, IfOk, OnOk, Err};
+ghost use Rattle.std.specs.Prelude.{◌≡◌, ◌<◌, ◌≤◌, ◌++◌, List, length, IfOk, OnOk, Err};
 ghost use Rattle.std.specs.List.Sorted.{IsStrictlySortedBy};
 ghost use Rattle.elem_cubes.specs.Cells.{Factor};
 ghost use Rattle.elem_cubes.specs.Order.{cell_cmp};
 ghost use Rattle.cube_sets.specs.Sorted.{has};
+ghost use Rattle.algebraic_reduction.specs.Reduction.{Step};
 ghost use Rattle.algebraic_reduction.specs.Laws.{NothingLeft};
 ghost use Rattle.cell_complex.specs.RelativeComplex.{is_relative};
 ghost use Rattle.cell_complex.specs.CellCount.{cell_count};
@@ -12,6 +13,7 @@ ghost use Rattle.cell_complex.specs.Growth.{IsFinishedGrowth};
 ghost use Rattle.cell_complex.specs.FreePairs.{CollapsesTo, HasNoFreePair};
 ghost use Rattle.excision.specs.Excision.{excised};
 ghost use Rattle.excision.specs.Left.{is_left};
+ghost use Rattle.homology_basis.specs.Marks.{TellLeft};
 
 use algebraic_reduction::Log;
 use cell_complex::{CELLS, CellList, CellsFault, Numbered, complex_of, relative};
@@ -63,8 +65,9 @@ pub fn prepare<const P: u16>(
     let log = Log::start(alloc, complex)?;
     let Grown { log, cubes } = grow(alloc, field, log, &cells, x, &near)?;
     let log = collapse(alloc, field, log, &cells)?;
-    let left = left_cells(alloc, &log, &cells)?;
+    let marks = left_marks(alloc, &log, &cells)?;
     let log = log.reduce_all(field)?;
+    let left = left_cells(alloc, &marks, &cells)?;
     Ok(Prepared {
         cells,
         grown: cubes,
@@ -73,23 +76,39 @@ pub fn prepare<const P: u16>(
     })
 }
 
-// The cells that a log leaves, in order.
-fn left_cells<const P: u16>(
+// Which of the cells a log leaves, by their numbers. While more is reduced that takes less memory
+// than the cells.
+fn left_marks<const P: u16>(
     alloc: Global,
     log: &Log<P>,
     cells: &Numbered,
-) -> Result<CellList, AllocError>
+) -> Result<Vec<bool>, AllocError>
     requires { IsComplexOf P cells.now log.now.complex }
-    ensures left { IfOk result (λ l. (c : List Factor)
-        → has cell_cmp l c ≡ is_left cells.now log.now.steps c) }
-    ensures sorted { IfOk result (λ l. IsStrictlySortedBy cell_cmp l) }
+    ensures count { IfOk result (λ m. length m.items ≡ length cells.now) }
+    ensures marks { IfOk result (λ m. TellLeft (length cells.now) log.now.steps m.items) }
+{
+    let mut marks = Vec::with_capacity(alloc, cells.len() as usize)?;
+    for number in 0..cells.len() {
+        marks.push(log.alive(number))?;
+    }
+    Ok(marks)
+}
+
+// The cells that are marked as left, in order.
+fn left_cells(alloc: Global, marks: &[bool], cells: &Numbered) -> Result<CellList, AllocError>
+    requires { length marks.now ≡ length cells.now }
+    ensures left { IfOk result (λ l. (ss : List Step) → TellLeft (length cells.now) ss marks.now
+        → (c : List Factor) → has cell_cmp l c ≡ is_left cells.now ss c) }
+    ensures sorted { IfOk result (λ l. (ss : List Step) → TellLeft (length cells.now) ss marks.now
+        → IsStrictlySortedBy cell_cmp l) }
 {
     let mut left = CellList::new(alloc);
+    let mut near = 0;
     for number in 0..cells.len() {
-        if !log.alive(number) {
+        if !marks[number as usize] {
             continue;
         }
-        left.push(cells.cell(number))?;
+        left.push(cells.cell_near(number, &mut near))?;
     }
     Ok(left)
 }

@@ -110,7 +110,8 @@ fn circle<const P: u16>(alloc: Global) -> Result<Complex<P>, Fail> {
     graph(alloc, 4, &[(0, 1), (1, 2), (2, 3), (3, 0)])
 }
 
-/// The number of the edge between two of so many vertices, any two of which span one; the vertices are numbered first.
+/// The number of the edge between two of so many vertices, any two of which span one; the vertices
+/// are numbered first.
 fn edge(vertices: u32, low: u32, high: u32) -> Result<u32, Fail> {
     let mut number = vertices;
     for first in 0..vertices {
@@ -199,7 +200,8 @@ fn degrees_of<const P: u16>(alloc: Global, complex: &Complex<P>) -> Result<Vec<u
     Ok(degrees)
 }
 
-/// How many of so many generators of each degree are left, and whether all that is left has no boundary.
+/// How many of so many generators of each degree are left, and whether all that is left has no
+/// boundary.
 fn left<const P: u16>(
     alloc: Global,
     log: &Log<P>,
@@ -223,7 +225,8 @@ fn left<const P: u16>(
     Ok((counts, empty))
 }
 
-/// Whether the transposed projection of a generator has at each generator what the projection of that one has at it.
+/// Whether the transposed projection of a generator has at each generator what the projection of
+/// that one has at it.
 fn transposes<const P: u16>(
     alloc: Global,
     log: &Log<P>,
@@ -242,8 +245,9 @@ fn transposes<const P: u16>(
     Ok(same)
 }
 
-/// Reduces all of a complex, and tells whether so many generators of each degree are left without a boundary, whether each is
-/// the projection of its inclusion, and whether the projection and the transposed one agree.
+/// Reduces all of a complex, and tells whether so many generators of each degree are left without a
+/// boundary, whether each is the projection of its inclusion, and whether the projection and the
+/// transposed one agree.
 fn reduces_to<const P: u16>(
     alloc: Global,
     complex: Complex<P>,

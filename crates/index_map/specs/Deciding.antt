@@ -13,8 +13,8 @@ abbrev pub relative_list : List (List Factor) → List (List Factor) → List (L
 relative_list x a = without (cells_of x) (cells_of a)
 
 -- some chain of these cells, in normal form by their numbers, of which P holds
-pub record SomeChain (p : ℕ) (cells : List (List Factor)) (P : (List Factor → ℕ) → Type 0)
-    : Type 0 where
+pub record SomeChain (p : ℕ) (cells : List (List Factor))
+    (P : (List Factor → ℕ) → Type 0) : Type 0 where
   pub terms : List (ℕ × ℕ)
   pub normal : IsNormalWithin p 0 (length cells) terms
   pub holds : P (by_cell cells (coefficient terms))

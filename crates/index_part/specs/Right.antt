@@ -45,13 +45,8 @@ pub record IsRightIndexIn (p : ℕ) (m : PairMap) (k : ℕ) (zs : List (List (Li
 
 -- what is read past the end of a list of splittings
 abbrev pub no_leray : LerayRows
-no_leray = record {
-  image = [];
-  kernel = [];
-  reduced = [];
-  reduced_inverse = [];
-  split_inverse = [];
-}
+no_leray =
+    record { image = []; kernel = []; reduced = []; reduced_inverse = []; split_inverse = [] }
 
 -- the pair of the domain is included in that of the range, invertibly in each degree; and by degree
 -- from 0 to the dimension of the map, the part is right in the cycles

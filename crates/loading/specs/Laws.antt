@@ -16,9 +16,12 @@ LimitsOfSets = (kind : Kind) (name : List ℕ) (read : Reading) (count : LimitNa
     → IsSetIn kind name read (Err (Limit count number))
     → ((count ≡ FileBytes) × (number ≡ file_bytes)) ⊎ ((count ≡ Cubes) × (number ≡ most_cubes))
 
--- a dimension that is refused is that of a set of the second file beside that of a set of the first, from which it differs
+-- a dimension that is refused is that of a set of the second file beside that of a set of the
+-- first, from which it differs
 abbrev pub DimensionsOfSets : Type 0
-DimensionsOfSets = (x : List ℕ) (y : Option (List ℕ)) (read : Reading) (name : List ℕ) (found before : ℕ)
+DimensionsOfSets =
+    (x : List ℕ) (y : Option (List ℕ)) (read : Reading) (name : List ℕ) (found before : ℕ)
     → AreTwoSetsIn x y read (Err (Dimension name found before))
-    → (name ≡ second_name x y) × (s : Members) × (t : Members) × IsSetIn Any x read (Ok s) × IsSubsetIn Any y read (Ok t)
+    → (name ≡ second_name x y) × (s : Members) × (t : Members) × IsSetIn Any x read (Ok s)
+    × IsSubsetIn Any y read (Ok t)
     × (found ≡ t.dimension) × (before ≡ s.dimension) × (dimensions_agree before found ≡ false)

@@ -18,14 +18,17 @@ abbrev pub at_map_place : List ℕ → ℕ → Option Cause → Fault
 at_map_place name place (Some cause) = BadText name place cause
 at_map_place name place None = Limit MapPairs most_pairs
 
--- the refusal of a text: its place and cause, but too many cubes or pairs are told as the limit that they pass
+-- the refusal of a text: its place and cause, but too many cubes or pairs are told as the limit
+-- that they pass
 abbrev pub map_fault : List ℕ → ℕ → TextCause → Fault
 map_fault name place cause = at_map_place name place (told_cause cause)
 
 -- the map of a text, by the grammar of map files
 abbrev pub IsMapOf : List ℕ → List ℕ → Result Mapping Fault → Type 0
 IsMapOf name text (Ok map) = HasValue text map
-IsMapOf name text (Err fault) = (place : ℕ) × (cause : TextCause) × IsRefusedAt text place cause × (fault ≡ map_fault name place cause)
+IsMapOf name text (Err fault) =
+    (place : ℕ) × (cause : TextCause) × IsRefusedAt text place cause
+    × (fault ≡ map_fault name place cause)
 
 -- the map of a file: its reading, and then its text
 abbrev pub IsMapIn : List ℕ → Reading → Result Mapping Fault → Type 0

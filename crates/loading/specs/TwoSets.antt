@@ -30,7 +30,8 @@ two_sets name x y =
 -- the first set, then the second, and then their dimensions
 abbrev pub AreTwoSetsIn : List ℕ → Option (List ℕ) → Reading → Result TwoSets Fault → Type 0
 AreTwoSetsIn x y read =
-    Then (IsSetIn Any x read) (λ s. Then (IsSubsetIn Any y read) (λ t. Is (two_sets (second_name x y) s t)))
+    Then (IsSetIn Any x read)
+    (λ s. Then (IsSubsetIn Any y read) (λ t. Is (two_sets (second_name x y) s t)))
 
 -- the dimensions agree, and neither set has more members than a set file
 pub record AreOperands (sets : TwoSets) : Type 0 where

@@ -76,6 +76,10 @@ module _ (p : ℕ) (map : List Naming) (domain : List (List Factor)) (two : 2 �
   first_hollow cells e i s l at before (faults.NotCarried cube value) h = absurd h
   first_hollow cells e i s l at before faults.NoMemory h = tt
 
+-- what is read at a place of a list stands there, whatever is said of places past the end
+pub read : (cells : List (List Factor)) (i : ℕ) (s : List Factor) → i < length cells → s ≡ cell_at cells i → s ≡ get_or cells i s
+read cells i s l at = at ∙ sym (get_or_default cells i s [] l)
+
 -- a cell at a place of the list of all cells is a cell of the set
 pub cell_there : (domain cells : List (List Factor)) → cells ≡ cells_of domain → (i : ℕ) (s : List Factor) → i < length cells → s ≡ get_or cells i s → is_cell_of domain s ≡ true
 cell_there domain cells e i s l at =

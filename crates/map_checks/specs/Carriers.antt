@@ -19,7 +19,8 @@ pub record Carrying : Type 0 where
   pub domain : List (List Factor)
   pub range : List (List Factor)
 
--- the map names the cubes of the domain, goes into the range, and has acyclic values; the cells of both are in order, and few
+-- the map names the cubes of the domain, goes into the range, and has acyclic values; the cells of
+-- both are in order, and few
 pub record IsCarrier (p : ℕ) (c : Carrying) : Type 0 where
   pub acyclic : IsAcyclicMap p c.map c.domain c.range
   pub named : AreNamed c.map c.domain

@@ -7,7 +7,8 @@ use Rattle.elem_cubes.specs.Order.{cell_cmp}
 use Rattle.cube_sets.specs.Sorted.{by_order}
 
 -- q is the first, in the order of cells, of those of the list of which P holds
-pub record IsFirstOf (cells : List (List Factor)) (P : List Factor → Type 0) (q : List Factor) : Type 0 where
+pub record IsFirstOf (cells : List (List Factor)) (P : List Factor → Type 0)
+    (q : List Factor) : Type 0 where
   pub there : Contains cells q
   pub here : P q
   pub before : (r : List Factor) → Contains cells r → P r → cell_cmp r q ≡ Less → ⊥

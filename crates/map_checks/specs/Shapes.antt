@@ -14,7 +14,8 @@ abbrev pub InShape : List (List (List Factor)) → List Factor → Type 0
 InShape shape g = list_all (λ v. is_cell_of v g) shape ≡ true
 
 -- the cells of all its lists are those of the value at s
-abbrev pub IsShapeAt : List Naming → List (List Factor) → List Factor → List (List (List Factor)) → Type 0
+abbrev pub IsShapeAt : List Naming → List (List Factor) → List Factor → List (List (List Factor))
+    → Type 0
 IsShapeAt map domain s shape = (g : List Factor) → InShape shape g ↔ InValue map domain s g
 
 -- each list that has the cells of all its lists, each once, is acyclic
@@ -25,7 +26,9 @@ IsAcyclicShape p shape = (value : List (List Factor))
 
 -- those of the shapes that are not empty are so
 abbrev pub AreAcyclicShapes : ℕ → List (List (List (List Factor))) → Type 0
-AreAcyclicShapes p shapes = (shape : List (List (List Factor))) → Contains shapes shape → shape ≢ [] → IsAcyclicShape p shape
+AreAcyclicShapes p shapes =
+    (shape : List (List (List Factor))) → Contains shapes shape → shape ≢ []
+    → IsAcyclicShape p shape
 
 -- the second shape is the first, which is not empty, moved
 pub record IsMovedShape (from to : List (List (List Factor))) : Type 0 where
@@ -37,4 +40,5 @@ pub record IsMovedShape (from to : List (List (List Factor))) : Type 0 where
 pub record AreEndsMoved (by from to : List ℤ) : Type 0 where
   pub count : length by ≡ length from
   pub count_to : length from ≡ length to
-  pub sums : (i : ℕ) → i < length from → slice_index_or from i (pos 0) +ℤ slice_index_or by i (pos 0) ≡ slice_index_or to i (pos 0)
+  pub sums : (i : ℕ) → i < length from → slice_index_or from i (pos 0) +ℤ slice_index_or by i
+      (pos 0) ≡ slice_index_or to i (pos 0)

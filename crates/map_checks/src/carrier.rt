@@ -136,7 +136,7 @@ pub fn check_values<const P: u16>(
     let range = y.union(alloc, b)?;
     let domain_cells = all_cells(alloc, &domain)?;
     let range_cells = all_cells(alloc, &range)?;
-    if let Err(fault) = check_cells(alloc, field, map, &domain, domain_cells.cells()) {
+    if let Err(fault) = check_cells(alloc, field, map, &domain, &domain_cells) {
         return Err(fault);
     }
     let dimension = map

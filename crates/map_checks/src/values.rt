@@ -9,6 +9,7 @@ use crate::map_fault::MapFault;
 use crate::shape::shape_at;
 use crate::value::value_set;
 use acyclic_values::{ValueFault, test_value};
+use cell_complex::Numbered;
 use cube_maps::CubeMap;
 use cube_sets::CubeSet;
 use elem_cubes::Cell;
@@ -73,7 +74,7 @@ pub(crate) fn check_cells<const P: u16>(
     field: Field<P>,
     map: &CubeMap,
     domain: &CubeSet,
-    cells: &[Cell],
+    cells: &Numbered,
 ) -> Result<(), MapFault<P>>
     requires cells { cells.now ≡ cells_of domain.now.cells }
     requires named { AreNamed map.now.named domain.now.cells }
@@ -82,8 +83,10 @@ pub(crate) fn check_cells<const P: u16>(
     ensures err { IfErr result (IsFirstHollow P map.now.named domain.now.cells) }
 {
     let mut known = AcyclicShapes::none(alloc)?;
-    for cell in cells {
-        if let Err(fault) = check_value(alloc, field, map, domain, cell, &mut known) {
+    let mut near = 0;
+    for number in 0..cells.len() {
+        let cell = cells.cell_near(number, &mut near);
+        if let Err(fault) = check_value(alloc, field, map, domain, &cell, &mut known) {
             return Err(fault);
         }
     }

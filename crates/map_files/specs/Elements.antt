@@ -10,14 +10,17 @@ abbrev pub joined : List (List Factor) → List (List Factor) → List (List Fac
 joined [] value = value
 joined (v ∷ vs) value = joined vs (inserted cell_cmp v value)
 
--- the named cubes, where the value of the cube is changed; a cube that was not named has the empty value before
-abbrev pub changed : List Factor → (List (List Factor) → List (List Factor)) → List Naming → List Naming
+-- the named cubes, where the value of the cube is changed; a cube that was not named has the empty
+-- value before
+abbrev pub changed : List Factor → (List (List Factor) → List (List Factor)) → List Naming
+    → List Naming
 changed q f [] = record { cube = q; value = f [] } ∷ []
 changed q f (e ∷ es) = by_order (cell_cmp q e.cube)
     (record { cube = q; value = f [] } ∷ e ∷ es)
     (record { cube = e.cube; value = f e.value } ∷ es)
     (e ∷ changed q f es)
 
--- the map with an element, which gives it its dimension: the cube has these values beside those that it had
+-- the map with an element, which gives it its dimension: the cube has these values beside those
+-- that it had
 abbrev pub with_element : Mapping → List Factor → List (List Factor) → Mapping
 with_element m q vs = record { dimension = length q; named = changed q (joined vs) m.named }

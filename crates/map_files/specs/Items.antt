@@ -12,8 +12,8 @@ use Rattle.grid_files.specs.declared.piece.Piece.{Piece}
 use Rattle.grid_files.specs.declared.piece.Piece.TheVariants.{Mark, Arrow, SkippedLine, DimensionWord, DimensionNumber}
 use Rattle.map_files.specs.Elements.{with_element}
 
--- An item: an element whose value is one cube, an element whose value is a list of cubes, a dimension line, a skipped line. Cubes are
--- full, and stand for themselves by their lower corners.
+-- An item: an element whose value is one cube, an element whose value is a list of cubes, a
+-- dimension line, a skipped line. Cubes are full, and stand for themselves by their lower corners.
 pub data Item : Type 0 where
   single : List ℤ → List ℤ → Item
   listed : List ℤ → List (List ℤ) → Item
@@ -27,7 +27,8 @@ leading q = closed q ++ Arrow ∷ []
 abbrev pub listing : List ℤ → List (List ℤ) → List Piece
 listing q vs = leading q ++ Mark 123 ∷ flat_map closed vs
 
--- The pieces of an item: `(q1 .. qn) -> (r1 .. rn)`, `(q1 .. qn) -> { (r1 .. rn) .. }`, `dimension` and a number, another word.
+-- The pieces of an item: `(q1 .. qn) -> (r1 .. rn)`, `(q1 .. qn) -> { (r1 .. rn) .. }`, `dimension`
+-- and a number, another word.
 abbrev pub spelling : Item → List Piece
 spelling (single q v) = leading q ++ closed v
 spelling (listed q vs) = listing q vs ++ Mark 125 ∷ []
@@ -44,8 +45,8 @@ fits (listed q vs) = fits_cube q && list_all fits_cube vs
 fits (dimension_line z) = true
 fits skipped_line = true
 
--- The beginning of an item, up to where the next piece stands: `(..`, `(..)`, `(..) ->`, `(..) -> (..`, `(..) -> { (..)`,
--- `(..) -> { (..) (..`, `dimension`.
+-- The beginning of an item, up to where the next piece stands: `(..`, `(..)`, `(..) ->`, `(..) ->
+-- (..`, `(..) -> { (..)`, `(..) -> { (..) (..`, `dimension`.
 pub data Open : Type 0 where
   nothing : Open
   in_left : List ℤ → Open
@@ -83,7 +84,8 @@ refused_for_arrow Arrow = None
 refused_for_arrow p = Some BadByte
 
 abbrev pub refused_for_marks : ℕ → ℕ → Piece → Option TextCause
-refused_for_marks one other (Mark b) = if b == one then None else if b == other then None else Some BadByte
+refused_for_marks one other (Mark b) =
+    if b == one then None else if b == other then None else Some BadByte
 refused_for_marks one other p = Some BadByte
 
 -- Why a piece cannot stand behind the beginning of an item, if it cannot.
@@ -101,17 +103,19 @@ refused (in_listed q vs xs) p = refused_in_corner is_full_end xs p
 refused behind_word (DimensionNumber z) = None
 refused behind_word p = Some BadNumber
 
--- Why a map with one more element is none: it has too many named cubes, or too many pairs of a cube and a cube of its value.
+-- Why a map with one more element is none: it has too many named cubes, or too many pairs of a cube
+-- and a cube of its value.
 abbrev pub has_too_many : Mapping → Bool
 has_too_many m = nat_lt most_pairs (length m.named) || nat_lt most_pairs (length (pairs_of m.named))
 
--- The lengths of an element's corners: one has too many numbers, or one has not the dimension that is known, or not that of the
--- left one.
+-- The lengths of an element's corners: one has too many numbers, or one has not the dimension that
+-- is known, or not that of the left one.
 abbrev pub is_long : List ℤ → Bool
 is_long xs = nat_lt most_factors (length xs)
 
 abbrev pub are_alike : Mapping → List ℤ → List (List ℤ) → Bool
-are_alike m q vs = dimensions_agree m.dimension (length q) && list_all (λ v. length v == length q) vs
+are_alike m q vs =
+    dimensions_agree m.dimension (length q) && list_all (λ v. length v == length q) vs
 
 abbrev pub count_cause : Mapping → Option TextCause
 count_cause m = if has_too_many m then Some TooMany else None
@@ -120,7 +124,8 @@ count_cause m = if has_too_many m then Some TooMany else None
 abbrev pub element_cause : Mapping → List ℤ → List (List ℤ) → Option TextCause
 element_cause m q vs =
     if list_any is_long (q ∷ vs) then Some DimensionTooLarge
-    else if are_alike m q vs then count_cause (with_element m (full_cell q) (map full_cell vs)) else Some MixedDimension
+    else if are_alike m q vs then count_cause
+    (with_element m (full_cell q) (map full_cell vs)) else Some MixedDimension
 
 -- The dimension that is known, as of a set without cells.
 abbrev pub known : Mapping → Members

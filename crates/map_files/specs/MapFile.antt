@@ -38,7 +38,8 @@ fault_place (dimension_line z) (p ∷ ps) = first_place ps
 fault_place item ps = first_place ps
 
 -- The pieces begin with an item that is refused as a whole.
-pub record BeginsRefused (m : Mapping) (ps : List (ℕ × Piece)) (place : ℕ) (cause : TextCause) : Type 0 where
+pub record BeginsRefused (m : Mapping) (ps : List (ℕ × Piece)) (place : ℕ)
+    (cause : TextCause) : Type 0 where
   pub item : Item
   pub here : List (ℕ × Piece)
   pub more : List (ℕ × Piece)
@@ -57,8 +58,8 @@ is_open (in_list q vs) = true
 is_open (in_listed q vs xs) = true
 is_open behind_word = true
 
--- Behind the beginning of an item stands a piece that has no reading there, or the end of the text: that is told at the item's
--- first byte.
+-- Behind the beginning of an item stands a piece that has no reading there, or the end of the text:
+-- that is told at the item's first byte.
 abbrev pub StopsAt : Open → ℕ → List (ℕ × Piece) → ℕ → TextCause → Type 0
 StopsAt begun start [] place cause = (is_open begun ≡ true) × (place ≡ start) × (cause ≡ Unclosed)
 StopsAt begun start (p ∷ ps) place cause = (place ≡ p.0) × (refused begun p.1 ≡ Some cause)
@@ -74,7 +75,8 @@ pub record BeginsBroken (ps : List (ℕ × Piece)) (place : ℕ) (cause : TextCa
   pub stops : StopsAt begun (first_place here) more place cause
 
 -- Behind items that are not refused the pieces begin no item, or one that is refused.
-pub record Refuses (before : Mapping) (ps : List (ℕ × Piece)) (place : ℕ) (cause : TextCause) : Type 0 where
+pub record Refuses (before : Mapping) (ps : List (ℕ × Piece)) (place : ℕ)
+    (cause : TextCause) : Type 0 where
   pub items : List Item
   pub map : Mapping
   pub rest : List (ℕ × Piece)

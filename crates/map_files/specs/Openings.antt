@@ -34,7 +34,8 @@ IsOpening opening o = ⊥
 
 -- a whole item, whose list has these corners
 abbrev pub IsClosing : List (List ℤ) → Closing → Item → Type 0
-IsClosing vs (closing.Single left value) (single q v) = IsCorner left q × IsCorner value v × (vs ≡ [])
+IsClosing vs (closing.Single left value) (single q v) =
+    IsCorner left q × IsCorner value v × (vs ≡ [])
 IsClosing vs (closing.Listed left) (listed q us) = IsCorner left q × (us ≡ vs)
 IsClosing vs (closing.Dimension z) (dimension_line y) = z ≡ y
 IsClosing vs closing.Skipped skipped_line = Unit {0}
@@ -42,7 +43,8 @@ IsClosing vs c i = ⊥
 
 -- a list with one more corner
 abbrev pub IsOneMore : List (List ℤ) → OpenCorner → OpenCorner → Open → Type 0
-IsOneMore vs left value (in_list q us) = IsCorner left q × ((v : List ℤ) × IsCorner value v × (us ≡ vs ++ v ∷ []))
+IsOneMore vs left value (in_list q us) =
+    IsCorner left q × ((v : List ℤ) × IsCorner value v × (us ≡ vs ++ v ∷ []))
 IsOneMore vs left value o = ⊥
 
 -- a turn is the step of the reading
@@ -59,7 +61,8 @@ pub record IsValues (values : Values) (vs : List (List ℤ)) : Type 0 where
   pub cells : values.long ≡ false → values.cells.items ≡ map full_cell vs
 
 -- these are the cubes of corners that are not too long
-pub record AreCubes (q : List ℤ) (vs : List (List ℤ)) (cube : List Factor) (values : List (List Factor)) : Type 0 where
+pub record AreCubes (q : List ℤ) (vs : List (List ℤ)) (cube : List Factor)
+    (values : List (List Factor)) : Type 0 where
   pub left : cube ≡ full_cell q
   pub listed : values ≡ map full_cell vs
   pub short : list_any is_long (q ∷ vs) ≡ false

@@ -16,7 +16,8 @@ pub data Step : Type 0 where
   stops : TextCause → Step
 
 abbrev pub in_corner : (List ℤ → Open) → Step → List ℤ → Piece → Step
-in_corner more close xs (Number z) = if is_full_end z then goes (more (xs ++ z ∷ [])) else stops CoordinateTooLarge
+in_corner more close xs (Number z) =
+    if is_full_end z then goes (more (xs ++ z ∷ [])) else stops CoordinateTooLarge
 in_corner more close xs Wide = stops BadNumber
 in_corner more close xs (Mark b) = if b == 41 && not (is_empty xs) then close else stops BadByte
 in_corner more close xs p = stops BadByte
@@ -26,7 +27,8 @@ for_arrow found Arrow = found
 for_arrow found p = stops BadByte
 
 abbrev pub for_marks : ℕ → Step → ℕ → Step → Piece → Step
-for_marks one first other second (Mark b) = if b == one then first else if b == other then second else stops BadByte
+for_marks one first other second (Mark b) =
+    if b == one then first else if b == other then second else stops BadByte
 for_marks one first other second p = stops BadByte
 
 abbrev pub step : Open → Piece → Step
@@ -77,5 +79,6 @@ abbrev pub read : Mapping → Open → ℕ → List (ℕ × Piece) → Outcome
 read m o start [] = if is_open o then Err (start, Unclosed) else Ok m
 read m o start (p ∷ ps) = next (step o p.1)
     (λ o'. read m o' (start_of o start p.0) ps)
-    (λ i. judged (cause_of m i) (λ c. Err (closing_place i (start_of o start p.0) p.0, c)) (read (with_item m i) nothing 0 ps))
+    (λ i. judged (cause_of m i) (λ c. Err (closing_place i (start_of o start p.0) p.0, c))
+    (read (with_item m i) nothing 0 ps))
     (λ c. Err (p.0, c))

@@ -1,5 +1,5 @@
--- Where a text is refused: what stands before has a value, what stands open there begins an item, and with the piece or the item that
--- is refused nothing goes on to a value.
+-- Where a text is refused: what stands before has a value, what stands open there begins an item,
+-- and with the piece or the item that is refused nothing goes on to a value.
 use Rattle.std.specs.Prelude.{◌≡◌, ◌⊎◌, ℕ, List, [], ◌∷◌, ◌++◌, true}
 use Rattle.cube_maps.specs.CubeMaps.{Mapping}
 use Rattle.grid_files.specs.Pieces.{pieces}
@@ -53,8 +53,11 @@ pub record RefusedFirst (text : List ℕ) (place : ℕ) (cause : TextCause) : Ty
   pub map : Mapping
   pub value : HaveValue front map
   pub begin : BeginItem here
-  pub refused : LeftOpen here rest place cause ⊎ (PieceRefused (front ++ here) rest place ⊎ ItemRefused front here place)
+  pub refused : LeftOpen here rest place cause
+      ⊎ (PieceRefused (front ++ here) rest place ⊎ ItemRefused front here place)
 
 -- each refusal is of that kind
 abbrev pub RefusalsAreFirst : Type 0
-RefusalsAreFirst = (text : List ℕ) (place : ℕ) (cause : TextCause) → IsRefusedAt text place cause → RefusedFirst text place cause
+RefusalsAreFirst =
+    (text : List ℕ) (place : ℕ) (cause : TextCause) → IsRefusedAt text place cause
+    → RefusedFirst text place cause

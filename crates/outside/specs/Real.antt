@@ -7,11 +7,13 @@ abbrev pub TakesNothing : {E : Type 0} → Result ℕ E → Type 0
 TakesNothing (Ok n) = n ≡ 0
 TakesNothing (Err e) = Unit {0}
 
--- Where a file tells at which place it stands and all its bytes, reads give the bytes from there on.
+-- Where a file tells at which place it stands and all its bytes, reads give the bytes from there
+-- on.
 abbrev pub ReadsGoOn : {F : Type 0} → (F → Option (List ℕ)) → (F → Option ℕ)
     → (F → Option (List ℕ)) → Type 0
 ReadsGoOn {F} remaining position bytes = (file : F)
-    → IfSome (position file) (λ at. IfSome (bytes file) (λ all. remaining file ≡ Some (drop at all)))
+    → IfSome (position file)
+    (λ at. IfSome (bytes file) (λ all. remaining file ≡ Some (drop at all)))
 
 -- The first n bytes of the buffer are those from the place on; they are fewer than fit only at the
 -- end.

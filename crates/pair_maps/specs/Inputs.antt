@@ -25,7 +25,8 @@ domain_of m = together m.x.cells m.a.cells
 abbrev pub range_of : PairMap → List (List Factor)
 range_of m = together m.y.cells m.b.cells
 
--- the embedding dimension of the map and its sets: all known ones are equal, and an unknown one is 0
+-- the embedding dimension of the map and its sets: all known ones are equal, and an unknown one is
+-- 0
 abbrev pub dimension_of_map : PairMap → ℕ
 dimension_of_map m = max m.map.dimension
     (max (max m.x.dimension m.a.dimension) (max m.y.dimension m.b.dimension))

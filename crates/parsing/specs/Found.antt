@@ -28,8 +28,11 @@ valued choice value = record { choice = choice; value = Some value }
 pub record Finds (said : Spoken) (rows : List Found) : Type 0 where
   pub operands : all_of (codes "operands") rows ≡ Some said.operands
   pub values : (choice : Choice) → takes_value choice ≡ true
-      → setting_of said.settings choice ≡ option_map (valued choice) (first_of (option_name choice) rows)
+      → setting_of said.settings choice
+      ≡ option_map (valued choice) (first_of (option_name choice) rows)
   pub flags : (choice : Choice) → takes_value choice ≡ false
-      → setting_of said.settings choice ≡ option_map (λ s. record { choice = choice; value = None }) (setting_of said.settings choice)
+      → setting_of said.settings choice
+      ≡ option_map (λ s. record { choice = choice; value = None })
+      (setting_of said.settings choice)
   pub told : (choice : Choice) → takes_value choice ≡ false
       → IsFlag (is_some (setting_of said.settings choice)) (one_of (option_name choice) rows)

@@ -100,17 +100,22 @@ impl Plan {
         if degree < self.degrees.len() {
             std::mem::swap(&mut generators, &mut self.degrees[degree]);
         }
-        self.count_waiting(complex, &generators);
-        self.order_free_first(alloc, complex, &generators)?;
+        if self.count_waiting(complex, &generators) {
+            self.order_free_first(alloc, complex, &generators)?;
+        }
         Ok(self.order.len())
     }
 
-    fn count_waiting<const P: u16>(&mut self, complex: &Complex<P>, generators: &[u32]) {
+    // Counts the boundaries that wait, and answers whether there is any.
+    fn count_waiting<const P: u16>(&mut self, complex: &Complex<P>, generators: &[u32]) -> bool {
+        let mut any = false;
         for b in generators {
             if *b < complex.len() && !self.marks.has_place(*b) {
                 self.marks.count(*b, complex.boundary(*b));
+                any = true;
             }
         }
+        any
     }
 
     // From one free face on, what comes to be free is taken before the next free face: then what is

@@ -22,7 +22,9 @@ group_line p k d = codes "H_" ++ decimal k ++ codes " = " ++ group_text p d ++ c
 
 -- the line on the cycle of number j in degree k
 abbrev pub cycle_line : {G : Type 0} → (G → List ℕ) → ℕ → ℕ → List (G × ℕ) → List ℕ
-cycle_line write k j z = codes "z_" ++ decimal k ++ codes "_" ++ decimal j ++ codes " = " ++ chain_text write z ++ codes "\n"
+cycle_line write k j z =
+    codes "z_" ++ decimal k ++ codes "_" ++ decimal j ++ codes " = " ++ chain_text write z
+    ++ codes "\n"
 
 -- the lines on these cycles of degree k, which are numbered from j
 abbrev pub cycle_lines_from : {G : Type 0} → (G → List ℕ) → ℕ → ℕ → List (List (G × ℕ)) → List ℕ
@@ -38,16 +40,20 @@ abbrev pub degree_lines : {G : Type 0} → (G → List ℕ) → ℕ → ℕ → 
 degree_lines write p k d zs = group_line p k d ++ cycle_lines write k zs
 
 -- the lines of degree k and up, for these dimensions and the cycles of all degrees from 0
-abbrev pub group_lines_from : {G : Type 0} → (G → List ℕ) → ℕ → ℕ → List ℕ → List (List (List (G × ℕ))) → List ℕ
+abbrev pub group_lines_from : {G : Type 0} → (G → List ℕ) → ℕ → ℕ → List ℕ
+    → List (List (List (G × ℕ))) → List ℕ
 group_lines_from write p k [] cycles = []
-group_lines_from write p k (d ∷ ds) cycles = degree_lines write p k d (get_or cycles k []) ++ group_lines_from write p (k + 1) ds cycles
+group_lines_from write p k (d ∷ ds) cycles =
+    degree_lines write p k d (get_or cycles k []) ++ group_lines_from write p (k + 1) ds cycles
 
 -- the lines of degree 0 and up
-abbrev pub group_lines : {G : Type 0} → (G → List ℕ) → ℕ → List ℕ → List (List (List (G × ℕ))) → List ℕ
+abbrev pub group_lines : {G : Type 0} → (G → List ℕ) → ℕ → List ℕ → List (List (List (G × ℕ)))
+    → List ℕ
 group_lines write p ds cycles = group_lines_from write p 0 ds cycles
 
 -- the cycles that are printed
-abbrev pub shown_cycles : {G : Type 0} → Shown → List (List (List (G × ℕ))) → List (List (List (G × ℕ)))
+abbrev pub shown_cycles : {G : Type 0} → Shown → List (List (List (G × ℕ)))
+    → List (List (List (G × ℕ)))
 shown_cycles shown cycles = if shown.cycles then cycles else []
 
 -- the line on a count of this name
@@ -153,4 +159,5 @@ map_text map shown =
 abbrev pub report_text : Report → Shown → List ℕ
 report_text (Pair pair) shown = pair_lines pair shown
 report_text (Map map) shown = map_text map shown
-report_text (Chain dimensions cycles) shown = group_lines number_text shown.modulus dimensions (shown_cycles shown cycles)
+report_text (Chain dimensions cycles) shown =
+    group_lines number_text shown.modulus dimensions (shown_cycles shown cycles)

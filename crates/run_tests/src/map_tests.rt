@@ -143,28 +143,43 @@ const INDEXED: [Row; 7] = [
     },
     Row {
         words: &[
-            "homcubes", "--index", "x", "a", "y", "b", "--map=double", "--mod=3",
+            "homcubes",
+            "--index",
+            "x",
+            "a",
+            "y",
+            "b",
+            "--map=double",
+            "--mod=3",
         ],
         out: "domain\nH_0 = 0\nH_1 = Z_3\nrange\nH_0 = 0\nH_1 = Z_3\nmap\nF_0 rank 0\nF_1 rank 1\nindex\nN_0 rank 0\nL_0 = 0\nN_1 rank 1\nL_1 = 1\n",
         ..DONE
     },
     Row {
-        words: &["homcubes", "--map", "shift", "p", "none", "away", "none", "--index"],
+        words: &[
+            "homcubes", "--map", "shift", "p", "none", "away", "none", "--index",
+        ],
         err: "error: index: (0) is not in the range\n",
         ..REFUSED
     },
     Row {
-        words: &["homcubes", "--map", "shift", "p", "p", "two", "away", "--index"],
+        words: &[
+            "homcubes", "--map", "shift", "p", "p", "two", "away", "--index",
+        ],
         err: "error: index: (0) is not in the range's subset\n",
         ..REFUSED
     },
     Row {
-        words: &["homcubes", "--map", "onto", "gap", "none", "three", "none", "--index"],
-        err: "error: index: degree 0: killed: 1 * [(0)(0)] + 1 * [(3)(3)]\n",
+        words: &[
+            "homcubes", "--map", "onto", "gap", "none", "three", "none", "--index",
+        ],
+        err: "error: index: degree 0: killed: 1 * [(1)(1)] + 1 * [(3)(3)]\n",
         ..REFUSED
     },
     Row {
-        words: &["homcubes", "--map", "one", "p", "none", "gap", "none", "--index"],
+        words: &[
+            "homcubes", "--map", "one", "p", "none", "gap", "none", "--index",
+        ],
         err: "error: index: degree 0: missed: 1 * [(2)(2)] + 1 * [(3)(3)]\n",
         ..REFUSED
     },

@@ -9,7 +9,8 @@ use std::process::Abort;
 // Texts with places.
 type Places<'a> = &'a [(&'a str, u64)];
 
-// The cause with which a text is refused, and its place; nothing where it has a value, or no memory was left.
+// The cause with which a text is refused, and its place; nothing where it has a value, or no memory
+// was left.
 fn refusal(alloc: Global, text: &str, kind: Kind) -> Option<(u64, TextCause)> {
     match read_set(alloc, text.as_bytes(), kind) {
         Err(TextFault::At { place, cause }) => Some((place, cause)),

@@ -1,4 +1,5 @@
--- What a witness speaks of: a pair of sets, or a map between two pairs; the numbering of the cells; and what is claimed.
+-- What a witness speaks of: a pair of sets, or a map between two pairs; the numbering of the cells;
+-- and what is claimed.
 use Rattle.std.specs.Prelude.{ℕ, List, [], filter, Option, Some, None}
 use Rattle.elem_cubes.specs.Cells.{Factor}
 use Rattle.chains.specs.Homology.{IsBasis}
@@ -41,7 +42,8 @@ abbrev pub a_of : Given → Side → List (List Factor)
 a_of G domain = G.a
 a_of G range = (target_of G).b
 
--- the cells of the domain, and those of the range: the cell of number i in a file is the one at i - 1
+-- the cells of the domain, and those of the range: the cell of number i in a file is the one at i -
+-- 1
 abbrev pub all_cells : List (List Factor) → List (List Factor) → List (List Factor)
 all_cells x a = cells_of (together x a)
 
@@ -50,20 +52,25 @@ abbrev pub relative_cells : List (List Factor) → List (List Factor) → List (
 relative_cells x a = filter (is_relative x a) (all_cells x a)
 
 -- the value of the map at a cell of the domain, in order
-abbrev pub value_cells : Target → List (List Factor) → List (List Factor) → List Factor → List (List Factor)
+abbrev pub value_cells : Target → List (List Factor) → List (List Factor) → List Factor
+    → List (List Factor)
 value_cells T x a s = filter (in_value T.map (together x a) s) (all_cells T.y T.b)
 
 -- the cycles of the section are a basis of the pair in each degree
 abbrev pub IsPairClaim : ℕ → List (List Factor) → List (List Factor) → Section → Type 0
 IsPairClaim p x a S = (k : ℕ) → IsBasis p (relative_complex p x a) k (S.size k) (S.cycle k)
 
--- what a witness of a map shows: bases of both pairs, acyclic values, some carried map, and in each degree the matrix of all
-pub record IsMapClaim (p : ℕ) (x a : List (List Factor)) (T : Target) (X Y : Section) (entry : ℕ → ℕ → ℕ → ℕ) : Type 0 where
+-- what a witness of a map shows: bases of both pairs, acyclic values, some carried map, and in each
+-- degree the matrix of all
+pub record IsMapClaim (p : ℕ) (x a : List (List Factor)) (T : Target) (X Y : Section)
+    (entry : ℕ → ℕ → ℕ → ℕ) : Type 0 where
   pub domain : IsPairClaim p x a X
   pub range : IsPairClaim p T.y T.b Y
   pub acyclic : IsAcyclicMap p T.map (together x a) (together T.y T.b)
-  pub exists : (f : List Factor → List Factor → ℕ) × IsCarriedMap p T.map (together x a) (together T.y T.b) f
-  pub matrices : (k : ℕ) → IsInducedMatrix p T.map (together x a) (together T.y T.b) T.y T.b k (X.size k) (X.cycle k) (Y.size k) (Y.cycle k) (entry k)
+  pub exists : (f : List Factor → List Factor → ℕ)
+      × IsCarriedMap p T.map (together x a) (together T.y T.b) f
+  pub matrices : (k : ℕ) → IsInducedMatrix p T.map (together x a) (together T.y T.b) T.y T.b k
+      (X.size k) (X.cycle k) (Y.size k) (Y.cycle k) (entry k)
 
 -- what a map needs before its witness is read
 abbrev pub IsWithoutFault : Given → Target → Type 0

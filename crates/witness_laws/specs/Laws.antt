@@ -14,16 +14,19 @@ TablesShowBases =
     (p : ℕ) (G : Given) (W : Tables) → 1 ≤ p → IsTables p G W → MeetsLaws (tables_format p G) W
     → IsPairClaim p G.x G.a (section_at G W domain)
 
--- and for a map, whose sets have no fault, the values are acyclic, a carried map exists, and the matrices are those of all carried maps
+-- and for a map, whose sets have no fault, the values are acyclic, a carried map exists, and the
+-- matrices are those of all carried maps
 abbrev pub TablesShowMaps : Type 0
 TablesShowMaps =
-    (p : ℕ) (G : Given) (T : Target) (W : Tables) → 1 ≤ p → G.target ≡ Some T → IsWithoutFault G T → IsTables p G W → MeetsLaws (tables_format p G) W
-    → IsMapClaim p G.x G.a T (section_at G W domain) (section_at G W range) (entry_of (map_of W).matrices)
+    (p : ℕ) (G : Given) (T : Target) (W : Tables) → 1 ≤ p → G.target ≡ Some T → IsWithoutFault G T
+    → IsTables p G W → MeetsLaws (tables_format p G) W
+    → IsMapClaim p G.x G.a T (section_at G W domain) (section_at G W range)
+    (entry_of (map_of W).matrices)
 
 -- ---- texts
 
--- the text of each line is one line; a text of such lines has exactly these; one that stands in front is the first; and the lines of
--- a text are the text
+-- the text of each line is one line; a text of such lines has exactly these; one that stands in
+-- front is the first; and the lines of a text are the text
 pub record TextsHaveTheirLines : Type 0 where
   pub tables : (G : Given) (W : Tables) (line : Line) → IsOneLine (text_of_line G W line)
   pub lines : (ts : List (List ℕ)) → All IsOneLine ts → lines_of (flat_map (λ t. t) ts) ≡ ts
@@ -36,16 +39,19 @@ NumeralsArePrinted = (n : ℕ) → n < 2 ^ 64 → decimal n ≡ numeral n
 
 -- a line tells its numbers and its chain
 pub record LinesTellTheirParts : Type 0 where
-  pub chain : (word ms ns : List ℕ) (ts us : List (ℕ × ℕ)) → chain_line word ms ts ≡ chain_line word ns us → (ms ≡ ns) × (ts ≡ us)
+  pub chain : (word ms ns : List ℕ) (ts us : List (ℕ × ℕ))
+      → chain_line word ms ts ≡ chain_line word ns us → (ms ≡ ns) × (ts ≡ us)
   pub numbers : (word ms ns : List ℕ) → numbers_line word ms ≡ numbers_line word ns → ms ≡ ns
   pub row : (k l : ℕ) (es fs : List ℕ) → row_line k es ≡ row_line l fs → (k ≡ l) × (es ≡ fs)
 
--- of the answers on the lines of a text at most one is right: it has at most one value, at most one first line and law that fail,
--- and none where its value is accepted
+-- of the answers on the lines of a text at most one is right: it has at most one value, at most one
+-- first line and law that fail, and none where its value is accepted
 pub record HasOneOutcome {V : Type 0} (F : Format V) : Type 0 where
   pub value : HaveOneValue F
-  pub fault : (ts : List (List ℕ)) (k l : ℕ) (law other : Law) → IsFirstFault F ts k law → IsFirstFault F ts l other → (k ≡ l) × (law ≡ other)
-  pub accepted : (ts : List (List ℕ)) (k : ℕ) (law : Law) (v : V) → IsFirstFault F ts k law → IsAccepted F ts v → ⊥
+  pub fault : (ts : List (List ℕ)) (k l : ℕ) (law other : Law) → IsFirstFault F ts k law
+      → IsFirstFault F ts l other → (k ≡ l) × (law ≡ other)
+  pub accepted : (ts : List (List ℕ)) (k : ℕ) (law : Law) (v : V) → IsFirstFault F ts k law
+      → IsAccepted F ts v → ⊥
 
 -- so it is in version 1
 abbrev pub TablesHaveOneOutcome : Type 0

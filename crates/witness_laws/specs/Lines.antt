@@ -1,5 +1,5 @@
--- The lines of a witness file as data: each line names a part of the witness, and carries no content of its own. The writer and
--- both passes of the replayer go over such lists.
+-- The lines of a witness file as data: each line names a part of the witness, and carries no
+-- content of its own. The writer and both passes of the replayer go over such lists.
 use Rattle.std.specs.Prelude.{◌≡◌, ℕ, zero, suc, ◌+◌, List, [], ◌∷◌, ◌++◌, map, codes, if◌then◌else◌, ◌==◌, Bool, true, not, ◌&&◌}
 use Rattle.std.specs.Int.Digits.{digits_of}
 use Rattle.std.specs.List.{flat_map}
@@ -9,8 +9,9 @@ pub data Side : Type 0 where
   domain : Side
   range : Side
 
--- a line, by what it speaks of. Degrees and all other numbers count from 0: the i-th cycle of degree k, the i-th relative cell, the
--- i-th cell of the domain, the m-th cell of its value, the r-th row of the matrix of degree k
+-- a line, by what it speaks of. Degrees and all other numbers count from 0: the i-th cycle of
+-- degree k, the i-th relative cell, the i-th cell of the domain, the m-th cell of its value, the
+-- r-th row of the matrix of degree k
 pub data Line : Type 0 where
   section : Side → Line
   cycle : Side → ℕ → ℕ → Line
@@ -31,7 +32,8 @@ each (suc n) f = f 0 ++ each n (λ i. f (suc i))
 
 -- ---- texts of lines
 
--- the decimal digits of a number without leading zeros, however many; for numbers below 10 ^ 64 it is what is printed of them
+-- the decimal digits of a number without leading zeros, however many; for numbers below 10 ^ 64 it
+-- is what is printed of them
 abbrev pub numeral : ℕ → List ℕ
 numeral n = if n == 0 then codes "0" else map (λ d. 48 + d) (digits_of 10 n)
 
@@ -54,7 +56,8 @@ numbers_line word ns = word ++ numbers_text ns ++ codes "\n"
 abbrev pub row_line : ℕ → List ℕ → List ℕ
 row_line k es = codes "m" ++ numbers_text (k ∷ []) ++ codes ":" ++ numbers_text es ++ codes "\n"
 
--- ---- the lines of a text, each with the line feed that ends it; what stands behind the last line feed is a line, too
+-- ---- the lines of a text, each with the line feed that ends it; what stands behind the last line
+-- feed is a line, too
 
 abbrev pub last_line : List ℕ → List (List ℕ)
 last_line [] = []
@@ -63,7 +66,8 @@ last_line (b ∷ bs) = (b ∷ bs) ∷ []
 -- where so much of the first line stands before
 abbrev pub lines_behind : List ℕ → List ℕ → List (List ℕ)
 lines_behind [] line = last_line line
-lines_behind (c ∷ cs) line = if c == 10 then (line ++ c ∷ []) ∷ lines_behind cs [] else lines_behind cs (line ++ c ∷ [])
+lines_behind (c ∷ cs) line =
+    if c == 10 then (line ++ c ∷ []) ∷ lines_behind cs [] else lines_behind cs (line ++ c ∷ [])
 
 abbrev pub lines_of : List ℕ → List (List ℕ)
 lines_of bytes = lines_behind bytes []

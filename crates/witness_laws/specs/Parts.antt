@@ -1,5 +1,5 @@
--- The parts of a witness that do not depend on the form of its homotopies: chains of numbered cells, images, vertices and
--- matrices, with their laws.
+-- The parts of a witness that do not depend on the form of its homotopies: chains of numbered
+-- cells, images, vertices and matrices, with their laws.
 use Rattle.std.specs.Prelude.{◌≡◌, ℕ, suc, ◌+◌, ◌-◌, ◌<◌, ◌≤◌, List, [], ◌∷◌, length, map, slice_index, slice_index_or}
 use Rattle.std.specs.List.{Contains}
 use Rattle.field_mod.specs.Modular.{Same}
@@ -23,7 +23,8 @@ chain_of cells ts = cell_coefficient (map (λ t. (cell_at cells (t.0 - 1), t.1))
 -- each term names a cell of which P holds
 abbrev pub NameCells : List (List Factor) → (List Factor → Type 0) → List (ℕ × ℕ) → Type 0
 NameCells cells P [] = Unit {0}
-NameCells cells P (t ∷ ts) = (0 < t.0) × (t.0 ≤ length cells) × P (cell_at cells (t.0 - 1)) × NameCells cells P ts
+NameCells cells P (t ∷ ts) =
+    (0 < t.0) × (t.0 ≤ length cells) × P (cell_at cells (t.0 - 1)) × NameCells cells P ts
 
 abbrev pub nth : List (List (ℕ × ℕ)) → ℕ → List (ℕ × ℕ)
 nth cs i = slice_index_or cs i []
@@ -57,10 +58,13 @@ entry_of ms k r s = slice_index (slice_index_or (slice_index_or ms k []) r []) s
 pub record AreMatrices (p top : ℕ) (height width : ℕ → ℕ) (ms : List (List (List ℕ))) : Type 0 where
   pub degrees : length ms ≡ top + 1
   pub rows : (k : ℕ) → length (slice_index_or ms k []) ≡ height k
-  pub columns : (k r : ℕ) → r < height k → length (slice_index_or (slice_index_or ms k []) r []) ≡ width k
-  pub entries : (k r s : ℕ) → r < height k → s < width k → slice_index (slice_index_or (slice_index_or ms k []) r []) s < p
+  pub columns : (k r : ℕ) → r < height k
+      → length (slice_index_or (slice_index_or ms k []) r []) ≡ width k
+  pub entries : (k r s : ℕ) → r < height k → s < width k
+      → slice_index (slice_index_or (slice_index_or ms k []) r []) s < p
 
--- the number in the file of the i-th relative cell, and of the m-th cell of the value at the i-th cell of the domain
+-- the number in the file of the i-th relative cell, and of the m-th cell of the value at the i-th
+-- cell of the domain
 abbrev pub relative_number : List (List Factor) → List (List Factor) → ℕ → ℕ
 relative_number x a i = suc (number_of (all_cells x a) (cell_at (relative_cells x a) i))
 
@@ -71,11 +75,14 @@ value_number G i m = suc (number_of (range_cells G) (cell_at (value_at G i) m))
 
 -- the i-th v line names a vertex of the value
 abbrev pub NamesVertex : Given → List ℕ → ℕ → Type 0
-NamesVertex G vertices i = NameCells (range_cells G) (λ q. Contains (value_at G i) q × (dimension_of q ≡ 0)) ((slice_index vertices i, 1) ∷ [])
+NamesVertex G vertices i =
+    NameCells (range_cells G) (λ q. Contains (value_at G i) q × (dimension_of q ≡ 0))
+    ((slice_index vertices i, 1) ∷ [])
 
 -- the image of the i-th cell of the domain has its dimension
 abbrev pub IsOfOneDimension : Given → List (List (ℕ × ℕ)) → ℕ → Type 0
-IsOfOneDimension G images i = NameCells (range_cells G) (λ q. dimension_of q ≡ dimension_of (cell_of G i)) (nth images i)
+IsOfOneDimension G images i =
+    NameCells (range_cells G) (λ q. dimension_of q ≡ dimension_of (cell_of G i)) (nth images i)
 
 -- it is on the value
 abbrev pub IsCarriedTo : Given → List (List (ℕ × ℕ)) → ℕ → Type 0
@@ -83,9 +90,12 @@ IsCarriedTo G images i = NameCells (range_cells G) (Contains (value_at G i)) (nt
 
 -- the coefficients of the image of a vertex add up to 1
 abbrev pub IsAugmented : ℕ → Given → List (List (ℕ × ℕ)) → ℕ → Type 0
-IsAugmented p G images i = dimension_of (cell_of G i) ≡ 0 → Same p (sum_over (range_cells G) (image_of G images (cell_of G i))) 1
+IsAugmented p G images i =
+    dimension_of (cell_of G i) ≡ 0 → Same p
+    (sum_over (range_cells G) (image_of G images (cell_of G i))) 1
 
 -- its boundary is the image of the boundary, with all cells of domain and range
 abbrev pub Commutes : ℕ → Given → List (List (ℕ × ℕ)) → ℕ → Type 0
 Commutes p G images i =
-    (r : List Factor) → Same p (boundary_at p r (image_of G images (cell_of G i))) (image (all_cells G.x G.a) (image_of G images) (boundary_coefficient p (cell_of G i)) r)
+    (r : List Factor) → Same p (boundary_at p r (image_of G images (cell_of G i)))
+    (image (all_cells G.x G.a) (image_of G images) (boundary_coefficient p (cell_of G i)) r)

@@ -20,15 +20,15 @@ use Rattle.witness_laws.specs.Sections.{Section, IsClosedAt, IsDualAt, IsCocycle
 
 -- ---- the value
 
--- the cycles and cocycles by degree from 0, and the chain of each relative cell, in order. A chain has terms of a number, counted from
--- 1, and a coefficient
+-- the cycles and cocycles by degree from 0, and the chain of each relative cell, in order. A chain
+-- has terms of a number, counted from 1, and a coefficient
 pub record PairTables : Type 0 where
   pub cycles : List (List (List (ℕ × ℕ)))
   pub cocycles : List (List (List (ℕ × ℕ)))
   pub homotopies : List (List (ℕ × ℕ))
 
--- the range; for each cell of the domain the number of a vertex, the chain of each cell of its value, and its image; the matrices by
--- degree from 0, row by row
+-- the range; for each cell of the domain the number of a vertex, the chain of each cell of its
+-- value, and its image; the matrices by degree from 0, row by row
 pub record MapTables : Type 0 where
   pub range : PairTables
   pub vertices : List ℕ
@@ -41,7 +41,15 @@ pub record Tables : Type 0 where
   pub map : Option MapTables
 
 abbrev pub map_in : Option MapTables → MapTables
-map_in None = record { range = record { cycles = []; cocycles = []; homotopies = [] }; vertices = []; fillings = []; images = []; matrices = [] }
+map_in None =
+    record {
+      range = record { cycles = []; cocycles = []; homotopies = [] };
+      vertices =
+          [];
+      fillings = [];
+      images = [];
+      matrices = [];
+    }
 map_in (Some M) = M
 
 -- the tables of a map; empty ones where there is none
@@ -65,30 +73,39 @@ section_of x a S = record {
 
 -- the chain at the place m of the value at the i-th cell of the domain, over places of the value
 abbrev pub filling_of : Given → MapTables → ℕ → ℕ → ℕ → ℕ
-filling_of G M i m = by_number (value_at G i) (chain_of (range_cells G) (nth (slice_index_or M.fillings i []) m))
+filling_of G M i m =
+    by_number (value_at G i) (chain_of (range_cells G) (nth (slice_index_or M.fillings i []) m))
 
 -- ---- which lines there are
 
--- the values over the input: one list of cycles and of cocycles in each degree, of one length, and a chain for each relative cell; all
--- chains are in order, with coefficients below the modulus
+-- the values over the input: one list of cycles and of cocycles in each degree, of one length, and
+-- a chain for each relative cell; all chains are in order, with coefficients below the modulus
 pub record IsPairTables (p top : ℕ) (x a : List (List Factor)) (S : PairTables) : Type 0 where
   pub degrees : length S.cycles ≡ top + 1
   pub cocycle_degrees : length S.cocycles ≡ top + 1
   pub sizes : (k : ℕ) → length (in_degree S.cocycles k) ≡ length (in_degree S.cycles k)
   pub cells : length S.homotopies ≡ length (relative_cells x a)
-  pub cycles : (k i : ℕ) → i < length (in_degree S.cycles k) → AreTerms p 0 (nth (in_degree S.cycles k) i)
-  pub cocycles : (k i : ℕ) → i < length (in_degree S.cycles k) → AreTerms p 0 (nth (in_degree S.cocycles k) i)
+  pub cycles : (k i : ℕ) → i < length (in_degree S.cycles k)
+      → AreTerms p 0 (nth (in_degree S.cycles k) i)
+  pub cocycles : (k i : ℕ) → i < length (in_degree S.cycles k)
+      → AreTerms p 0 (nth (in_degree S.cocycles k) i)
   pub homotopies : (i : ℕ) → i < length S.homotopies → AreTerms p 0 (nth S.homotopies i)
 
-pub record IsMapTables (p : ℕ) (G : Given) (T : Target) (S : PairTables) (M : MapTables) : Type 0 where
+pub record IsMapTables (p : ℕ) (G : Given) (T : Target) (S : PairTables)
+    (M : MapTables) : Type 0 where
   pub range : IsPairTables p G.top T.y T.b M.range
   pub vertices : length M.vertices ≡ length (all_cells G.x G.a)
   pub values : length M.fillings ≡ length (all_cells G.x G.a)
   pub images : length M.images ≡ length (all_cells G.x G.a)
-  pub fillings : (i : ℕ) → i < length M.fillings → length (slice_index_or M.fillings i []) ≡ length (value_cells T G.x G.a (cell_at (all_cells G.x G.a) i))
-  pub filling_terms : (i m : ℕ) → i < length M.fillings → m < length (slice_index_or M.fillings i []) → AreTerms p 0 (nth (slice_index_or M.fillings i []) m)
+  pub fillings : (i : ℕ) → i < length M.fillings
+      → length (slice_index_or M.fillings i [])
+      ≡ length (value_cells T G.x G.a (cell_at (all_cells G.x G.a) i))
+  pub filling_terms : (i m : ℕ) → i < length M.fillings
+      → m < length (slice_index_or M.fillings i [])
+      → AreTerms p 0 (nth (slice_index_or M.fillings i []) m)
   pub image_terms : (i : ℕ) → i < length M.images → AreTerms p 0 (nth M.images i)
-  pub matrices : AreMatrices p G.top (λ k. length (in_degree M.range.cycles k)) (λ k. length (in_degree S.cycles k)) M.matrices
+  pub matrices : AreMatrices p G.top (λ k. length (in_degree M.range.cycles k))
+      (λ k. length (in_degree S.cycles k)) M.matrices
 
 abbrev pub IsMapPart : ℕ → Given → Option Target → PairTables → Option MapTables → Type 0
 IsMapPart p G None S None = Unit {0}
@@ -102,17 +119,25 @@ pub record IsTables (p : ℕ) (G : Given) (W : Tables) : Type 0 where
 -- the lines of a pair: its cycles, its cocycles, and a line for each relative cell
 abbrev pub pair_lines : Side → PairTables → List Line
 pair_lines side S =
-    section side ∷ each (length S.cycles) (λ k. each (length (in_degree S.cycles k)) (λ i. cycle side k i ∷ []))
-    ++ each (length S.cycles) (λ k. each (length (in_degree S.cycles k)) (λ i. cocycle side k i ∷ []))
+    section side ∷ each (length S.cycles)
+    (λ k. each (length (in_degree S.cycles k)) (λ i. cycle side k i ∷ []))
+    ++ each (length S.cycles)
+    (λ k. each (length (in_degree S.cycles k)) (λ i. cocycle side k i ∷ []))
     ++ each (length S.homotopies) (λ i. homotopy side i ∷ [])
 
 -- the lines of the values and images, cell by cell of the domain
 abbrev pub value_lines : MapTables → List Line
-value_lines M = values ∷ each (length M.images) (λ i. vertex i ∷ each (length (slice_index_or M.fillings i [])) (λ m. filling i m ∷ []) ++ image_line i ∷ [])
+value_lines M =
+    values ∷ each (length M.images)
+    (λ i. vertex i ∷ each (length (slice_index_or M.fillings i [])) (λ m. filling i m ∷ [])
+    ++ image_line i ∷ [])
 
 -- the lines of the matrices, but for those without columns
 abbrev pub matrix_lines : PairTables → MapTables → List Line
-matrix_lines S M = matrix ∷ each (length S.cycles) (λ k. if length (in_degree S.cycles k) == 0 then [] else each (length (slice_index_or M.matrices k [])) (λ r. row k r ∷ []))
+matrix_lines S M =
+    matrix ∷ each (length S.cycles)
+    (λ k. if length (in_degree S.cycles k) == 0 then [] else each
+    (length (slice_index_or M.matrices k [])) (λ r. row k r ∷ []))
 
 abbrev pub map_lines : PairTables → Option MapTables → List Line
 map_lines S None = []
@@ -126,39 +151,59 @@ lines_of_tables W = pair_lines domain W.domain ++ map_lines W.domain W.map ++ en
 abbrev pub text_of_line : Given → Tables → Line → List ℕ
 text_of_line G W (section domain) = codes "pair domain\n"
 text_of_line G W (section range) = codes "pair range\n"
-text_of_line G W (cycle side k i) = chain_line (codes "z") (k ∷ []) (nth (in_degree (pair_of W side).cycles k) i)
-text_of_line G W (cocycle side k i) = chain_line (codes "c") (k ∷ []) (nth (in_degree (pair_of W side).cocycles k) i)
-text_of_line G W (homotopy side i) = chain_line (codes "h") (relative_number (x_of G side) (a_of G side) i ∷ []) (nth (pair_of W side).homotopies i)
+text_of_line G W (cycle side k i) =
+    chain_line (codes "z") (k ∷ []) (nth (in_degree (pair_of W side).cycles k) i)
+text_of_line G W (cocycle side k i) =
+    chain_line (codes "c") (k ∷ []) (nth (in_degree (pair_of W side).cocycles k) i)
+text_of_line G W (homotopy side i) =
+    chain_line (codes "h") (relative_number (x_of G side) (a_of G side) i ∷ [])
+    (nth (pair_of W side).homotopies i)
 text_of_line G W values = codes "values\n"
-text_of_line G W (vertex i) = numbers_line (codes "v") (suc i ∷ slice_index (map_of W).vertices i ∷ [])
-text_of_line G W (filling i m) = chain_line (codes "g") (suc i ∷ value_number G i m ∷ []) (nth (slice_index_or (map_of W).fillings i []) m)
+text_of_line G W (vertex i) =
+    numbers_line (codes "v") (suc i ∷ slice_index (map_of W).vertices i ∷ [])
+text_of_line G W (filling i m) =
+    chain_line (codes "g") (suc i ∷ value_number G i m ∷ [])
+    (nth (slice_index_or (map_of W).fillings i []) m)
 text_of_line G W (image_line i) = chain_line (codes "f") (suc i ∷ []) (nth (map_of W).images i)
 text_of_line G W matrix = codes "matrix\n"
-text_of_line G W (row k r) = row_line k (slice_index_or (slice_index_or (map_of W).matrices k []) r [])
+text_of_line G W (row k r) =
+    row_line k (slice_index_or (slice_index_or (map_of W).matrices k []) r [])
 text_of_line G W end = codes "end\n"
 
 -- ---- the laws
 
 -- the law of the first pass: which cells a line may name
 abbrev pub names_cells : Given → Tables → Line → Type 0
-names_cells G W (cycle side k i) = NameCells (all_cells (x_of G side) (a_of G side)) (λ q. (is_relative (x_of G side) (a_of G side) q ≡ true) × (dimension_of q ≡ k)) (nth (in_degree (pair_of W side).cycles k) i)
-names_cells G W (cocycle side k i) = NameCells (all_cells (x_of G side) (a_of G side)) (λ q. (is_relative (x_of G side) (a_of G side) q ≡ true) × (dimension_of q ≡ k)) (nth (in_degree (pair_of W side).cocycles k) i)
+names_cells G W (cycle side k i) =
+    NameCells (all_cells (x_of G side) (a_of G side))
+    (λ q. (is_relative (x_of G side) (a_of G side) q ≡ true) × (dimension_of q ≡ k))
+    (nth (in_degree (pair_of W side).cycles k) i)
+names_cells G W (cocycle side k i) =
+    NameCells (all_cells (x_of G side) (a_of G side))
+    (λ q. (is_relative (x_of G side) (a_of G side) q ≡ true) × (dimension_of q ≡ k))
+    (nth (in_degree (pair_of W side).cocycles k) i)
 names_cells G W (homotopy side i) =
     NameCells (all_cells (x_of G side) (a_of G side))
-    (λ q. (is_relative (x_of G side) (a_of G side) q ≡ true) × (dimension_of q ≡ dimension_of (cell_at (relative_cells (x_of G side) (a_of G side)) i) + 1)) (nth (pair_of W side).homotopies i)
+    (λ q. (is_relative (x_of G side) (a_of G side) q ≡ true)
+    × (dimension_of q ≡ dimension_of (cell_at (relative_cells (x_of G side) (a_of G side)) i) +
+    1)) (nth (pair_of W side).homotopies i)
 names_cells G W (vertex i) = NamesVertex G (map_of W).vertices i
 names_cells G W (filling i m) =
-    NameCells (range_cells G) (λ q. Contains (value_at G i) q × (dimension_of q ≡ dimension_of (cell_at (value_at G i) m) + 1)) (nth (slice_index_or (map_of W).fillings i []) m)
+    NameCells (range_cells G)
+    (λ q. Contains (value_at G i) q
+    × (dimension_of q ≡ dimension_of (cell_at (value_at G i) m) + 1))
+    (nth (slice_index_or (map_of W).fillings i []) m)
 names_cells G W (image_line i) = IsOfOneDimension G (map_of W).images i
 names_cells G W line = Unit {0}
 
--- at the cell m of the value, a vertex less the last vertex, or any other cell, is the boundary of its chain and the chain of its
--- boundary; places of the value stand for its cells
+-- at the cell m of the value, a vertex less the last vertex, or any other cell, is the boundary of
+-- its chain and the chain of its boundary; places of the value stand for its cells
 abbrev pub ValueContractsAt : ℕ → List (List Factor) → ℕ → (ℕ → ℕ → ℕ) → ℕ → Type 0
 ValueContractsAt p value v h m =
     (s : ℕ) → s < length value
     → Same p (augmentation_at value m * single v s
-    + (total (length value) (λ t. h m t * incidence_at p value t s) + total (length value) (λ t. incidence_at p value m t * h t s)))
+    + (total (length value) (λ t. h m t * incidence_at p value t s)
+    + total (length value) (λ t. incidence_at p value m t * h t s)))
     (single m s)
 
 -- the chain of the section at a side
@@ -167,18 +212,27 @@ section_at G W side = section_of (x_of G side) (a_of G side) (pair_of W side)
 
 -- the laws of the second pass
 abbrev pub holds : ℕ → Given → Tables → Law → Line → Type 0
-holds p G W laws.Cycle (cycle side k i) = IsClosedAt p (x_of G side) (a_of G side) ((section_at G W side).cycle k i)
-holds p G W laws.Dual (cocycle side k i) = IsDualAt p (relative_cells (x_of G side) (a_of G side)) (section_at G W side) k i
-holds p G W laws.Cocycle (cocycle side k i) = IsCocycleAt p (x_of G side) (a_of G side) (relative_cells (x_of G side) (a_of G side)) ((section_at G W side).cocycle k i)
+holds p G W laws.Cycle (cycle side k i) =
+    IsClosedAt p (x_of G side) (a_of G side) ((section_at G W side).cycle k i)
+holds p G W laws.Dual (cocycle side k i) =
+    IsDualAt p (relative_cells (x_of G side) (a_of G side)) (section_at G W side) k i
+holds p G W laws.Cocycle (cocycle side k i) =
+    IsCocycleAt p (x_of G side) (a_of G side) (relative_cells (x_of G side) (a_of G side))
+    ((section_at G W side).cocycle k i)
 holds p G W laws.Contraction (homotopy side i) =
-    ContractsAt p (x_of G side) (a_of G side) (relative_cells (x_of G side) (a_of G side)) (section_at G W side) (cell_at (relative_cells (x_of G side) (a_of G side)) i)
-holds p G W laws.ValueContraction (filling i m) = ValueContractsAt p (value_at G i) (vertex_of G (map_of W).vertices i) (filling_of G (map_of W) i) m
+    ContractsAt p (x_of G side) (a_of G side) (relative_cells (x_of G side) (a_of G side))
+    (section_at G W side) (cell_at (relative_cells (x_of G side) (a_of G side)) i)
+holds p G W laws.ValueContraction (filling i m) =
+    ValueContractsAt p (value_at G i) (vertex_of G (map_of W).vertices i)
+    (filling_of G (map_of W) i) m
 holds p G W laws.Carried (image_line i) = IsCarriedTo G (map_of W).images i
 holds p G W laws.Augmentation (image_line i) = IsAugmented p G (map_of W).images i
 holds p G W laws.Commutes (image_line i) = Commutes p G (map_of W).images i
 holds p G W laws.Matrix (row k r) =
     (s : ℕ) → s < length (in_degree W.domain.cycles k)
-    → Same p (entry_of (map_of W).matrices k r s) (product_of_image (all_cells G.x G.a) (relative_cells (x_of G range) (a_of G range)) (section_at G W domain) (section_at G W range) (image_of G (map_of W).images) k r s)
+    → Same p (entry_of (map_of W).matrices k r s)
+    (product_of_image (all_cells G.x G.a) (relative_cells (x_of G range) (a_of G range))
+    (section_at G W domain) (section_at G W range) (image_of G (map_of W).images) k r s)
 holds p G W law line = Unit {0}
 
 -- version 1 for this input
@@ -188,6 +242,8 @@ tables_format p G = record {
   lines = lines_of_tables;
   text = text_of_line G;
   first = names_cells G;
-  second = laws.Cycle ∷ laws.Dual ∷ laws.Cocycle ∷ laws.Contraction ∷ laws.ValueContraction ∷ laws.Carried ∷ laws.Augmentation ∷ laws.Commutes ∷ laws.Matrix ∷ [];
+  second =
+      laws.Cycle ∷ laws.Dual ∷ laws.Cocycle ∷ laws.Contraction ∷ laws.ValueContraction ∷
+      laws.Carried ∷ laws.Augmentation ∷ laws.Commutes ∷ laws.Matrix ∷ [];
   holds = holds p G;
 }

@@ -66,7 +66,8 @@ pub(crate) fn counts_failing(calls: &mut u64, failing: &[u64]) -> bool
 // The file of that name, by its place.
 pub(crate) fn place_of(files: &[(String, Vec<u8>)], name: &str) -> Option<usize>
     ensures found { IfSome result (λ i. (i < length files.now)
-        × IfSome (slice_get files.now i) (λ f. held string_bytes (λ b. b.items) files.now name.now ≡ Some f.1.items)) }
+        × IfSome (slice_get files.now i) (λ f.
+        held string_bytes (λ b. b.items) files.now name.now ≡ Some f.1.items)) }
     ensures first { IfSome result (λ i.
         (held string_bytes (λ b. b.items) (take i files.now) name.now ≡ None)
         × IfSome (slice_get files.now i) (λ f. string_bytes f.0 ≡ name.now)) }

@@ -1,4 +1,4 @@
-use Rattle.std.proofs.Common.{ℕ, length, ◌*◌}
+use Rattle.std.proofs.Common.{length, ◌*◌}
 use Rattle.field_mod.specs.Sums.{total}
 use Rattle.chains.specs.Terms.{coefficient}
 use Rattle.algebraic_reduction.specs.Reduction.{single}

@@ -1,4 +1,4 @@
-use Rattle.std.proofs.Common.{false, ◌∙◌, sym}
+use Rattle.std.proofs.Common.{false}
 use Rattle.field_mod.proofs.Table.{two_le}
 use Rattle.homology_basis.proofs.Unique.{same_cycles}
 use Rattle.homology_basis.proofs.Whole.{by_cycles}

@@ -1,6 +1,7 @@
-use Rattle.std.proofs.Common.{◌∙◌, arith}
+use Rattle.std.proofs.Common.{◌∙◌, arith, sym, subst, length, List, Bool}
+use Rattle.homology_basis.specs.Marks.{TellLeft}
 use Rattle.face_reduction.proofs.Taking.{complex_kept}
-use Rattle.homology_basis.proofs.Together.{whole_listing, whole_growth, growth_then, left_collapses}
+use Rattle.homology_basis.proofs.Together.{whole_listing, whole_growth, growth_then, left_collapses, left_none}
 use Rattle.homology_basis.proofs.prepared.prepare.Goals as goal
 
 pub collapse-requires : goal.collapse-requires
@@ -30,5 +31,14 @@ returns-clause-grown g c = whole_growth g.row.P c.args.x.now c.args.a.now c.in_o
 pub returns-clause-left : goal.returns-clause-left
 returns-clause-left g c =
     let w = c.in_ok-log-2 in
+    let told = subst (λ (ms : List Bool). TellLeft (length c.in_ok-cells.cells) c.in_ok-log-3.log.steps ms) (sym c.deref.ensures.value) c.in_ok-marks.ensures.marks in
     left_collapses c.args.x.now.cells c.args.a.now.cells c.in_ok-cells.cells w.field-0.cubes c.in_ok-left.left w.field-0.log.steps c.in_ok-log-3.log.steps c.len.ensures.sorted
-    (whole_listing c.args.x.now c.args.a.now c.in_ok-near.near c.in_ok-cells.cells c.in_ok-near.ensures.excised c.in_ok-cells.ensures.cells) w.ensures.taken c.in_ok-log-3.ensures.collapse c.in_ok-left.ensures.left
+    (whole_listing c.args.x.now c.args.a.now c.in_ok-near.near c.in_ok-cells.cells c.in_ok-near.ensures.excised c.in_ok-cells.ensures.cells) w.ensures.taken c.in_ok-log-3.ensures.collapse (c.in_ok-left.ensures.left c.in_ok-log-3.log.steps told)
+
+pub returns-clause-sorted : goal.returns-clause-sorted
+returns-clause-sorted g c = c.in_ok-left.ensures.sorted c.in_ok-log-3.log.steps (subst (λ (ms : List Bool). TellLeft (length c.in_ok-cells.cells) c.in_ok-log-3.log.steps ms) (sym c.deref.ensures.value) c.in_ok-marks.ensures.marks)
+
+pub returns-clause-none_free : goal.returns-clause-none_free
+returns-clause-none_free g c = left_none c.in_ok-cells.cells c.in_ok-left.left c.in_ok-log-3.log.steps
+    (c.in_ok-left.ensures.left c.in_ok-log-3.log.steps (subst (λ (ms : List Bool). TellLeft (length c.in_ok-cells.cells) c.in_ok-log-3.log.steps ms) (sym c.deref.ensures.value) c.in_ok-marks.ensures.marks))
+    c.in_ok-log-3.ensures.none_free

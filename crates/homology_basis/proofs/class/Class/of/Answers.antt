@@ -1,6 +1,6 @@
-use Rattle.std.proofs.Common.{ℕ, arith, ap, subst}
+use Rattle.std.proofs.Common.{ℕ, arith, ap}
 use Rattle.field_mod.proofs.Table.{two_le}
-use Rattle.chains.specs.Terms.{coefficient, IsNormal}
+use Rattle.chains.specs.Terms.{coefficient}
 use Rattle.algebraic_reduction.proofs.Singles.{on_left}
 use Rattle.homology_basis.proofs.Beginning.{one_term, one_term_other, some_term, is_class}
 use Rattle.homology_basis.proofs.class.Class.of.Goals as goal

@@ -1,4 +1,4 @@
-use Rattle.std.proofs.Common.{◌≡◌, ◌+◌, List, ap, sym, ◌∙◌, get_or, subst, true≢false}
+use Rattle.std.proofs.Common.{◌+◌, List, ap, sym, ◌∙◌, get_or, subst, true≢false}
 use Rattle.chains.specs.ChainComplex.{ChainComplex}
 use Rattle.homology_basis.specs.Bases.{in_degree}
 use Rattle.homology_basis.specs.Classes.{ClassOf, AreClassesBelow}

@@ -1,6 +1,0 @@
-use Rattle.std.proofs.Common.{◌≡◌, length}
-use Rattle.cell_complex.specs.Boundaries.{AreBoundaries}
-use Rattle.cell_complex.proofs.complex.boundaries_of.Given as goal
-
-abbrev pub invariant-loop-cell : goal.invariant-loop-cell
-invariant-loop-cell g l = AreBoundaries g.row.P l.cells l.boundaries.items × (length l.boundaries.items ≡ l.cell-index)

@@ -1,5 +1,0 @@
-use Rattle.cell_complex.specs.Boundaries.{IsPartialBoundary}
-use Rattle.cell_complex.proofs.complex.boundary_among.Given as goal
-
-abbrev pub invariant-loop-facet : goal.invariant-loop-facet
-invariant-loop-facet g l = IsPartialBoundary g.row.P l.cells l.cell l.facet-iterator l.terms.items

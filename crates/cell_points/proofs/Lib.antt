@@ -1,0 +1,14 @@
+mod Deciding
+mod Sorting
+mod Ranks
+mod Axes
+mod Spreading
+mod Views
+mod Counting
+mod Unions
+mod Closing
+mod Edges
+mod Closed
+mod Grouping
+mod Searching
+mod Without
