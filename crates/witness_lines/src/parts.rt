@@ -49,10 +49,7 @@ fn put_term(to: &mut Vec<u8>, number: u32, coefficient: u16) -> Result<(), NoMem
 }
 
 /// Adds the terms of a chain, each behind a space.
-pub(crate) fn put_terms<const P: u16>(
-    to: &mut Vec<u8>,
-    chain: &Chain<P>,
-) -> Result<(), NoMemory>
+pub(crate) fn put_terms<const P: u16>(to: &mut Vec<u8>, chain: &Chain<P>) -> Result<(), NoMemory>
     ensures { OnOk result (to.new.items ≡ to.old.items ++ chain_text chain.now) }
 {
     for place in 0..chain.len() {

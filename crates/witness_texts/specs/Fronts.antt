@@ -12,7 +12,8 @@ BeginsOtherwise bytes front = (rest : List ℕ) → bytes ≢ front ++ rest
 
 -- the line of none of these moduli stands in front
 abbrev pub NamesNone : List ℕ → List ℕ → Type 0
-NamesNone bytes ps = (p : ℕ) → IsTrue (list_any (λ q. q == p) ps) → BeginsOtherwise bytes (modulus_line p)
+NamesNone bytes ps =
+    (p : ℕ) → IsTrue (list_any (λ q. q == p) ps) → BeginsOtherwise bytes (modulus_line p)
 
 -- that of p, which is one of them, with the rest behind it
 pub record IsNamed (bytes ps : List ℕ) (p : ℕ) (rest : List ℕ) : Type 0 where

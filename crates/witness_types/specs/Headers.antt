@@ -1,5 +1,6 @@
 -- The first three lines of a witness file.
-use Rattle.std.specs.Prelude.{◌≡◌, ℕ, zero, suc, ◌+◌, ◌<◌, List, [], ◌∷◌, ◌++◌, take, drop, codes, slice_index_or}
+use Rattle.std.specs.Prelude.{◌≡◌, ℕ, zero, suc, ◌+◌, ◌<◌, List, [], ◌∷◌, ◌++◌, take, drop, codes}
+use Rattle.std.specs.Prelude.{slice_index_or}
 use Rattle.field_mod.specs.Moduli.{IsModulus}
 use Rattle.witness_laws.specs.declared.law.Law.TheVariants as laws
 use Rattle.witness_laws.specs.declared.law.WitnessFault.{WitnessFault}
@@ -50,7 +51,8 @@ pub record IsFirstHeading (ts : List (List ℕ)) (k : ℕ) : Type 0 where
 
 -- the fault tells that line, where lines count from 1
 abbrev pub IsHeaderFault : List ℕ → WitnessFault → Type 0
-IsHeaderFault bytes (At line law) = (k : ℕ) × (line ≡ k + 1) × (law ≡ laws.Header) × IsFirstHeading (lines_of bytes) k
+IsHeaderFault bytes (At line law) =
+    (k : ℕ) × (line ≡ k + 1) × (law ≡ laws.Header) × IsFirstHeading (lines_of bytes) k
 IsHeaderFault bytes NoMemory = ⊥
 
 -- the lines behind the header; the first has the number 4

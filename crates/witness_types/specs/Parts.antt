@@ -1,5 +1,6 @@
 -- The parts of a witness as values of the form: flat lists of cycles with their degrees, by degree.
-use Rattle.std.specs.Prelude.{◌≡◌, ℕ, suc, ◌<◌, ◌≤◌, List, [], ◌∷◌, length, map, Option, Some, None, if◌then◌else◌, ◌==◌, slice_index}
+use Rattle.std.specs.Prelude.{◌≡◌, ℕ, suc, ◌<◌, ◌≤◌, List, [], ◌∷◌, length, map, Option, Some, None}
+use Rattle.std.specs.Prelude.{if◌then◌else◌, ◌==◌, slice_index}
 use Rattle.witness_laws.specs.Lines.{each}
 use Rattle.witness_laws.specs.Inputs.{Given}
 use Rattle.witness_laws.specs.Tables.{Tables, PairTables, MapTables}
@@ -28,8 +29,10 @@ pair_tables top part = record {
 
 -- the degrees never fall, and none is above the dimension; there are as many cocycles
 pub record IsInOrder {p : ℕ} (top : ℕ) (part : PairPart p) : Type 0 where
-  pub within : (i : ℕ) → i < length part.cycles.items → slice_index (degrees_of part.cycles.items) i ≤ top
-  pub order : (i j : ℕ) → i < j → j < length part.cycles.items → slice_index (degrees_of part.cycles.items) i ≤ slice_index (degrees_of part.cycles.items) j
+  pub within : (i : ℕ) → i < length part.cycles.items
+      → slice_index (degrees_of part.cycles.items) i ≤ top
+  pub order : (i j : ℕ) → i < j → j < length part.cycles.items
+      → slice_index (degrees_of part.cycles.items) i ≤ slice_index (degrees_of part.cycles.items) j
   pub cocycles : length part.cocycles.items ≡ length part.cycles.items
 
 abbrev pub map_tables : {p : ℕ} → ℕ → MapPart p → MapTables

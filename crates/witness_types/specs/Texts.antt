@@ -13,7 +13,9 @@ abbrev pub text_by : {V : Type 0} → Format V → Header → V → List ℕ
 text_by F h v = flat_map (λ t. t) (header_lines h) ++ flat_map (λ t. t) (texts_of F v)
 
 abbrev pub tables_text : ℕ → Input → Tables → List ℕ
-tables_text p input W = text_by (tables_format p (given_of input)) (record { version = 1; modulus = p; kind = kind_of input }) W
+tables_text p input W =
+    text_by (tables_format p (given_of input))
+    (record { version = 1; modulus = p; kind = kind_of input }) W
 
 -- a value that a text may have, which fails by no law of the first pass
 pub record IsWritable {V : Type 0} (F : Format V) (v : V) : Type 0 where

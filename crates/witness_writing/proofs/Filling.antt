@@ -1,5 +1,5 @@
 -- The lines of the values and images of the cells of the domain are the texts of a part; and texts as they grow.
-use Rattle.std.proofs.Common.{◌≡◌, ℕ, zero, suc, ◌+◌, ◌<◌, refl, sym, ap, ◌∙◌, arith, List, [], ◌∷◌, ◌++◌, length, get_or, map, append_assoc, true, subst}
+use Rattle.std.proofs.Common.{◌≡◌, ℕ, zero, suc, ◌+◌, ◌<◌, sym, ap, ◌∙◌, arith, List, [], ◌∷◌, ◌++◌, length, get_or, map, append_assoc, true, subst}
 use Rattle.std.proofs.lemmas.List.{append-nil, get_or-map}
 use Rattle.std.specs.Prelude.{codes}
 use Rattle.std.specs.List.{Contains}

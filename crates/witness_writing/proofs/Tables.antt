@@ -1,5 +1,5 @@
 -- The lines of matrices are the texts of matrices.
-use Rattle.std.proofs.Common.{◌≡◌, ℕ, zero, suc, ◌+◌, ◌<◌, refl, sym, ap, ◌∙◌, arith, List, [], ◌∷◌, ◌++◌, length, get_or, map, Bool, true, false, cond, eqb}
+use Rattle.std.proofs.Common.{◌≡◌, ℕ, zero, suc, ◌<◌, refl, sym, ap, ◌∙◌, arith, List, [], ◌∷◌, ◌++◌, length, get_or, map, Bool, true, false, cond, eqb}
 use Rattle.std.proofs.lemmas.List.{get_or-map}
 use Rattle.leray_conley.specs.Tables.{Table, entry}
 use Rattle.witness_laws.specs.Lines.{Line, matrix, row, each, row_line}

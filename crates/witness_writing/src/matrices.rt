@@ -7,11 +7,7 @@ use std::alloc::AllocError as NoMemory;
 use witness_lines::put_row_line;
 
 // Adds the lines of the rows of a matrix.
-fn put_rows<const P: u16>(
-    to: &mut Vec<u8>,
-    degree: u8,
-    matrix: &Matrix<P>,
-) -> Result<(), NoMemory>
+fn put_rows<const P: u16>(to: &mut Vec<u8>, degree: u8, matrix: &Matrix<P>) -> Result<(), NoMemory>
     ensures { OnOk result (to.new.items ≡ to.old.items ++ rows_text degree matrix.now) }
 {
     for row in 0..matrix.rows() {

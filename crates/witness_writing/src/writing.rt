@@ -42,7 +42,13 @@ pub fn write_witness<const P: u16>(
 {
     match input {
         Input::Pair { x, a } => pair_file(alloc, x, a, domain),
-        Input::Map { map: cubes, x, a, y, b } => {
+        Input::Map {
+            map: cubes,
+            x,
+            a,
+            y,
+            b,
+        } => {
             let Some(part) = map else {
                 unreachable!();
             };

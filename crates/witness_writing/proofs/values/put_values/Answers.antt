@@ -1,4 +1,4 @@
-use Rattle.std.proofs.Common.{ℕ, ◌≡◌, ◌<◌, ◌+◌, suc, [], ap, ◌∙◌, arith, length, List}
+use Rattle.std.proofs.Common.{◌≡◌, ◌<◌, ◌+◌, suc, [], ap, ◌∙◌, arith, length}
 use Rattle.std.specs.Prelude.{slice_index_or}
 use Rattle.cube_sets.specs.Closures.{cells_of}
 use Rattle.witness_writing.specs.Runs.{value_in, fillings_in, cell_text}
@@ -15,8 +15,7 @@ put_value-requires g c =
     let l : i < length (cells_of domain) = omega (arith, c.loop-place-test.true, c.len-place-end.ensures.count, ap length c.in_ok-cells.ensures) in
     let v : c.deref.result.now ≡ value_in f domain range i = c.deref.ensures.value ∙ c.in_ok-value.ensures in
     let k : c.deref-in-loop-place.result.now ≡ slice_index_or (fillings_in part) i [] =
-    c.deref-in-loop-place.ensures.value ∙ mapped_at (λ w. w.items) part.contractions.items i c.index-chains.result.now [] (omega (arith, l, c.requires.part.values)) c.index-chains.ensures in
-    (
+    c.deref-in-loop-place.ensures.value ∙ mapped_at (λ w. w.items) part.contractions.items i c.index-chains.result.now [] (omega (arith, l, c.requires.part.values)) c.index-chains.ensures in (
       (omega arith),
       (
         (omega (arith, ap length k, ap length v, c.requires.part.fillings i l)),

@@ -9,8 +9,7 @@ pub put_values-requires : goal.put_values-requires
 put_values-requires g c =
     let f = c.args.map.now.named in
     let d = c.in_ok-domain.ensures in
-    let r = c.in_ok-range.ensures in
-    (
+    let r = c.in_ok-range.ensures in (
       (omega arith),
       (
         subst (λ (l : List (List Factor)). AreNamed f l) (sym d) c.requires.faultless.named,
