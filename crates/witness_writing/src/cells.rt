@@ -17,7 +17,7 @@ const MOST: u32 = 4096;
 
 /// The members of both sets.
 #[tactic(auto, using(crate::proofs::Counting::few_together))]
-pub(crate) fn both(alloc: Global, x: &CubeSet, a: &CubeSet) -> Result<CubeSet, NoMemory>
+pub fn both(alloc: Global, x: &CubeSet, a: &CubeSet) -> Result<CubeSet, NoMemory>
     requires agree { IsTrue (dimensions_agree x.now.dimension a.now.dimension) }
     requires few { length (all_cells x.now.cells a.now.cells) ≤ 4096 }
     ensures { IfOk result (λ set. set.cells ≡ together x.now.cells a.now.cells) }
@@ -31,7 +31,7 @@ pub(crate) fn both(alloc: Global, x: &CubeSet, a: &CubeSet) -> Result<CubeSet, N
 
 /// All faces of the members of a set, which are few.
 #[tactic(auto, using(excision::proofs::Gone::sorted_of_set))]
-pub(crate) fn faces(alloc: Global, set: &CubeSet) -> Result<Numbered, NoMemory>
+pub fn faces(alloc: Global, set: &CubeSet) -> Result<Numbered, NoMemory>
     requires { length (cells_of set.now.cells) ≤ 4096 }
     ensures { IfOk result (λ all. all ≡ cells_of set.now.cells) }
 {

@@ -7,5 +7,6 @@ mod sections;
 mod values;
 mod writing;
 
+pub use cells::{both, faces};
 pub use witness_types::{Input, MapPart, PairPart};
 pub use writing::write_witness;
