@@ -1,0 +1,5 @@
+pub mod Digits
+pub mod Behind
+pub mod Chains
+pub mod Entries
+pub mod Whole
