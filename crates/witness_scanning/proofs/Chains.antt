@@ -5,7 +5,8 @@ use Rattle.std.specs.Prelude.{codes}
 use Rattle.witness_laws.specs.Lines.{numeral, chain_text}
 use Rattle.witness_laws.specs.Parts.{AreTerms}
 use Rattle.witness_scanning.specs.Numbers.{NoDigit, HasMarked, HasNoMarked, value_of, clipped, IsLast}
-use Rattle.witness_scanning.specs.Terms.{clipped_terms, HasTerm, HasNoTerm, HasNext, HasNoNext, ReadsFrom, HasChain, HasNoChain, AreWithin, HasRead}
+use Rattle.witness_scanning.specs.Terms.{clipped_terms, HasTerm, HasNoTerm, HasNext, HasNoNext, ReadsFrom, HasChain, HasNoChain}
+use Rattle.witness_scanning.proofs.Progress.{AreWithin, HasRead}
 use Rattle.witness_scanning.proofs.Digits.{numeral_split, value_of_numeral, some_digits}
 
 -- ---- a term

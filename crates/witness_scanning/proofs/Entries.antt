@@ -4,7 +4,8 @@ use Rattle.std.proofs.lemmas.List.{length-append}
 use Rattle.std.specs.Prelude.{codes}
 use Rattle.witness_laws.specs.Lines.{numeral, numbers_text}
 use Rattle.witness_scanning.specs.Numbers.{NoDigit, HasMarked, HasNoMarked, value_of, clipped}
-use Rattle.witness_scanning.specs.Terms.{HasEntry, HasNoEntry, AreBelow, HasEntries, HasNoEntries, HasReadEntries}
+use Rattle.witness_scanning.specs.Terms.{HasEntry, HasNoEntry, AreBelow, HasEntries, HasNoEntries}
+use Rattle.witness_scanning.proofs.Progress.{HasReadEntries}
 use Rattle.witness_scanning.proofs.Digits.{numeral_split, value_of_numeral}
 
 pub no_entry : (p : ℕ) (bs : List ℕ) → HasNoMarked 32 bs → HasNoEntry p bs

@@ -1,5 +1,5 @@
 use Rattle.std.proofs.Common.{length}
-use Rattle.witness_scanning.specs.Terms.{HasRead}
+use Rattle.witness_scanning.proofs.Progress.{HasRead}
 use Rattle.witness_scanning.proofs.terms.chain.Given as goal
 
 abbrev pub invariant-loop-coefficient : goal.invariant-loop-coefficient

@@ -1,5 +1,5 @@
 use Rattle.std.proofs.Common.{ℕ, List, arith, subst, sym}
-use Rattle.witness_scanning.specs.Terms.{HasReadEntries}
+use Rattle.witness_scanning.proofs.Progress.{HasReadEntries}
 use Rattle.witness_scanning.proofs.Entries.{none_read, entries_more, entries_stop, entries_whole, entries_over}
 use Rattle.witness_scanning.proofs.terms.entries.Goals as goal
 

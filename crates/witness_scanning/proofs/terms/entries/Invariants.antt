@@ -1,5 +1,5 @@
 use Rattle.std.proofs.Common.{◌-◌, length}
-use Rattle.witness_scanning.specs.Terms.{HasReadEntries}
+use Rattle.witness_scanning.proofs.Progress.{HasReadEntries}
 use Rattle.witness_scanning.proofs.terms.entries.Given as goal
 
 abbrev pub invariant-loop-rest : goal.invariant-loop-rest
