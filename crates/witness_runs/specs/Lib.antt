@@ -1,0 +1,5 @@
+pub mod Kinds
+pub mod Misses
+pub mod Due
+pub mod Cycles
+pub mod Runs
