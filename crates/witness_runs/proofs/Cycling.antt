@@ -9,7 +9,7 @@ use Rattle.witness_runs.specs.declared.miss.Miss.TheVariants as misses
 use Rattle.witness_runs.specs.Misses.{stop_at}
 use Rattle.witness_runs.specs.Kinds.{NamesKind}
 use Rattle.witness_runs.specs.Due.{IsDueCycle, MissesCycle}
-use Rattle.witness_runs.specs.Cycles.{BeginsWithZ, cycles_text, AreCycles, NameDegrees, HasCycles, AreCyclesAt, StopsCycles}
+use Rattle.witness_runs.specs.Cycles.{BeginsWithZ, cycles_text, AreCycles, NameDegrees, HasCycles, StopsCycles}
 
 text_push : (zs : List (ℕ × List (ℕ × ℕ))) (z : ℕ × List (ℕ × ℕ)) (u : List ℕ) → cycles_text (zs ++ z ∷ []) ++ u ≡ cycles_text zs ++ (chain_line (codes "z") (z.0 ∷ []) z.1 ++ u)
 text_push [] z u = ap (λ t. t ++ u) (append-nil (chain_line (codes "z") (z.0 ∷ []) z.1))

@@ -1,5 +1,5 @@
 -- Terms that name cells of a kind, and chains of them.
-use Rattle.std.proofs.Common.{◌≡◌, ℕ, zero, suc, ◌+◌, ◌-◌, ◌%◌, ◌^◌, ◌<◌, ◌≤◌, min, refl, sym, ap, ◌∙◌, arith, List, [], ◌∷◌, ◌++◌, length, get_or, map, take, subst}
+use Rattle.std.proofs.Common.{◌≡◌, ℕ, zero, suc, ◌+◌, ◌-◌, ◌%◌, ◌^◌, ◌<◌, ◌≤◌, refl, sym, ap, ◌∙◌, arith, List, [], ◌∷◌, ◌++◌, length, get_or, take, subst}
 use Rattle.std.proofs.lemmas.List.{take_more}
 use Rattle.std.proofs.Math.Nat.{mod-eq_of_lt}
 use Rattle.chains.specs.Terms.{coefficient, IsNormal, IsNormalWithin}
@@ -11,7 +11,7 @@ use Rattle.witness_scanning.specs.Numbers.{clipped}
 use Rattle.witness_scanning.specs.Terms.{clipped_terms}
 use Rattle.witness_scanning.specs.Lines.{HasChainLine, HasCycleLine, HasVertexLine}
 use Rattle.witness_runs.specs.Kinds.{IsOfKind, NamesKind}
-use Rattle.witness_runs.specs.Due.{IsDueChain, IsOtherChain, MissesChain, MissesKind, IsDueCycle, IsOtherCycle, MissesCycle, IsDueVertex, IsOtherVertex, MissesVertex}
+use Rattle.witness_runs.specs.Due.{IsDueChain, IsOtherChain, MissesChain, MissesKind, IsDueCycle, MissesCycle, IsDueVertex, IsOtherVertex}
 use Rattle.witness_runs.specs.declared.miss.Miss.{Miss}
 use Rattle.witness_runs.specs.declared.miss.Miss.TheVariants as misses
 
@@ -68,7 +68,10 @@ due_from p word ns kinds wanted bytes kept c rest pos s h k n q =
 pub other_from : (p : ℕ) (word ns kinds : List ℕ) (wanted : ℕ) (bytes : List ℕ) (kept : List (ℕ × ℕ)) (rest : List ℕ) → length kinds < 2 ^ 32 - 1 → HasChainLine word ns p bytes kept rest
     → (NamesKind kinds wanted kept → ⊥) → IsOtherChain p word ns kinds wanted bytes
 other_from p word ns kinds wanted bytes kept rest s h f = record {
-  terms = h.terms; rest = rest; are = h.are; split = h.split;
+  terms = h.terms;
+  rest = rest;
+  are = h.are;
+  split = h.split;
   other = λ k. f (subst (NamesKind kinds wanted) (sym (h.kept_is ∙ named_kept kinds wanted h.terms s k)) k);
 }
 
@@ -103,6 +106,8 @@ due_vertex_from i kinds wanted bytes v rest s h k =
 pub other_vertex_from : (i : ℕ) (kinds : List ℕ) (wanted : ℕ) (bytes : List ℕ) (v : ℕ) (rest : List ℕ) → length kinds < 2 ^ 32 - 1 → HasVertexLine i bytes v rest → (IsOfKind kinds wanted v → ⊥)
     → IsOtherVertex i kinds wanted bytes
 other_vertex_from i kinds wanted bytes v rest s h f = record {
-  vertex = h.vertex; rest = rest; split = h.split;
+  vertex = h.vertex;
+  rest = rest;
+  split = h.split;
   other = λ k. let a = h.kept_is in let b : h.vertex ≤ length kinds = k.1 in let e : h.vertex ≡ v = omega arith in f (subst (IsOfKind kinds wanted) e k);
 }

@@ -1,13 +1,12 @@
 -- How runs are read.
-use Rattle.std.proofs.Common.{◌≡◌, ℕ, zero, suc, ◌+◌, ◌<◌, ◌≤◌, refl, sym, ap, ◌∙◌, arith, ⊎_elim, List, [], ◌∷◌, ◌++◌, length, get_or, append_assoc, subst, Option}
+use Rattle.std.proofs.Common.{◌≡◌, ℕ, zero, suc, ◌+◌, ◌<◌, refl, sym, ap, ◌∙◌, arith, ⊎_elim, List, [], ◌∷◌, ◌++◌, length, get_or, append_assoc, subst, Option}
 use Rattle.std.proofs.lemmas.List.{length-append, append-nil}
 use Rattle.std.proofs.lemmas.Bool.{cases_lt}
 use Rattle.witness_laws.specs.Lines.{chain_line}
 use Rattle.witness_laws.specs.Parts.{AreTerms, nth}
-use Rattle.witness_scanning.specs.Lines.{HasNoChainLine}
 use Rattle.witness_runs.specs.Kinds.{NamesKind}
-use Rattle.witness_runs.specs.Due.{IsDueChain, IsOtherChain, MissesChain}
-use Rattle.witness_runs.specs.Runs.{head_of, run_text, HasRun, NameKinds, StopsAtText, StopsAtCell, StopsRun}
+use Rattle.witness_runs.specs.Due.{IsDueChain, MissesChain}
+use Rattle.witness_runs.specs.Runs.{head_of, run_text, HasRun, NameKinds, StopsRun}
 use Rattle.witness_runs.specs.Misses.{stop_at}
 use Rattle.witness_runs.specs.declared.miss.Miss.{Miss}
 use Rattle.witness_runs.specs.declared.miss.Miss.TheVariants as misses

@@ -1,6 +1,6 @@
 -- One line that is due: it stands at the front and names cells that it may name, or it fails.
-use Rattle.std.specs.Prelude.{◌≡◌, ℕ, ◌+◌, ◌<◌, ◌≤◌, List, [], ◌∷◌, ◌++◌, length, codes}
-use Rattle.witness_laws.specs.Lines.{chain_line, numbers_line, row_line}
+use Rattle.std.specs.Prelude.{◌≡◌, ℕ, ◌+◌, ◌≤◌, List, [], ◌∷◌, ◌++◌, codes}
+use Rattle.witness_laws.specs.Lines.{chain_line, numbers_line}
 use Rattle.witness_laws.specs.Parts.{AreTerms}
 use Rattle.witness_scanning.specs.Lines.{HasNoChainLine, HasNoCycleLine, HasNoVertexLine}
 use Rattle.witness_runs.specs.declared.miss.Miss.{Miss}
@@ -17,11 +17,11 @@ pub record IsDueChain (p : ℕ) (word ns kinds : List ℕ) (wanted : ℕ) (bytes
 -- such a line, whose terms do not
 pub record IsOtherChain (p : ℕ) (word ns kinds : List ℕ) (wanted : ℕ) (bytes : List ℕ) : Type 0
   where
-  pub terms : List (ℕ × ℕ)
-  pub rest : List ℕ
-  pub are : AreTerms p 0 terms
-  pub split : bytes ≡ chain_line word ns terms ++ rest
-  pub other : NamesKind kinds wanted terms → ⊥
+    pub terms : List (ℕ × ℕ)
+    pub rest : List ℕ
+    pub are : AreTerms p 0 terms
+    pub split : bytes ≡ chain_line word ns terms ++ rest
+    pub other : NamesKind kinds wanted terms → ⊥
 
 abbrev pub MissesChain : ℕ → List ℕ → List ℕ → List ℕ → ℕ → List ℕ → Miss → Type 0
 MissesChain p word ns kinds wanted bytes misses.Text = HasNoChainLine word ns p bytes

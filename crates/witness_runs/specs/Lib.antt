@@ -3,3 +3,4 @@ pub mod Misses
 pub mod Due
 pub mod Cycles
 pub mod Runs
+pub mod Rows

@@ -6,9 +6,11 @@ mod cycles;
 mod due;
 mod kinds;
 mod miss;
+mod rows;
 mod runs;
 
 pub use cycles::cycles_due;
 pub use due::{due_chain, due_cycle, due_vertex};
 pub use miss::{Miss, Stop};
+pub use rows::rows_due;
 pub use runs::chains_due;

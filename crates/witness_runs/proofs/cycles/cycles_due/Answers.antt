@@ -1,6 +1,6 @@
-use Rattle.std.proofs.Common.{ℕ, List, arith, sym, subst, ◌≡◌}
-use Rattle.witness_runs.specs.Cycles.{HasCycles, StopsCycles}
-use Rattle.witness_runs.proofs.Cycling.{cycles_none, cycles_more, cycles_smaller, stop_cycles}
+use Rattle.std.proofs.Common.{ℕ, List, sym, subst}
+use Rattle.witness_runs.specs.Cycles.{HasCycles}
+use Rattle.witness_runs.proofs.Cycling.{cycles_none, cycles_more}
 use Rattle.witness_runs.proofs.cycles.cycles_due.Goals as goal
 
 pub reading-init : goal.reading-init

@@ -1,4 +1,4 @@
-use Rattle.std.proofs.Common.{ℕ, List, arith, sym, subst, ◌%◌, ◌≡◌, ◌<◌}
+use Rattle.std.proofs.Common.{arith}
 use Rattle.field_mod.proofs.Table.{two_le}
 use Rattle.witness_runs.proofs.Naming.{due_cycle_from, miss_cycle_from}
 use Rattle.witness_runs.proofs.due.due_cycle.Goals as goal

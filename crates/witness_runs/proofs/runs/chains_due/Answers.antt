@@ -1,4 +1,4 @@
-use Rattle.std.proofs.Common.{ℕ, List, arith, sym, ap, subst, ◌≡◌}
+use Rattle.std.proofs.Common.{ℕ, List, arith, sym, subst}
 use Rattle.witness_runs.specs.Runs.{HasRun, StopsRun}
 use Rattle.witness_runs.proofs.Running.{run_none, run_more, stop_from}
 use Rattle.witness_runs.proofs.runs.chains_due.Goals as goal
