@@ -31,9 +31,9 @@ fn rows(alloc: Global, text: &str) -> Result<(usize, usize), Stop> {
     Ok((entries.len(), rest.len()))
 }
 
-// A line that fails by this law.
-fn at(line: usize, law: Law) -> Result<(usize, usize), Stop> {
-    Err(Stop::At { line, law })
+// A line that fails by this law, where so many bytes are left.
+fn at(left: usize, law: Law) -> Result<(usize, usize), Stop> {
+    Err(Stop::At { left, law })
 }
 
 #[test]
@@ -42,9 +42,9 @@ fn runs_of_cycles(rt: HostRuntime) {
         ("", Ok((0, 0))),
         ("c 1:\n", Ok((0, 5))),
         ("z 0: 1*1\nz 1: 1*2\nz 1: 1*3\nend\n", Ok((3, 4))),
-        ("z 1: 1*2\nz 0: 1*1\n", at(1, Law::Text)),
-        ("z 1: 1*2\nz 1: 1*1\n", at(1, Law::Cell)),
-        ("z", at(0, Law::Text)),
+        ("z 1: 1*2\nz 0: 1*1\n", at(9, Law::Text)),
+        ("z 1: 1*2\nz 1: 1*1\n", at(9, Law::Cell)),
+        ("z", at(1, Law::Text)),
     ] {
         assert!(rt; cycles(rt.alloc(), text) == Some(wanted), "{text}");
     }
@@ -54,18 +54,18 @@ fn runs_of_cycles(rt: HostRuntime) {
 fn runs_of_chains_and_rows(rt: HostRuntime) {
     for (text, wanted) in [
         ("g 9 1: 1*2\ng 9 4:\nend\n", Ok((2, 4))),
-        ("g 9 1: 1*1\ng 9 4:\n", at(0, Law::Cell)),
-        ("g 9 1:\n", at(1, Law::Text)),
-        ("g 9 1:\ng 9 4: 1*2\n", at(1, Law::Cell)),
+        ("g 9 1: 1*1\ng 9 4:\n", at(18, Law::Cell)),
+        ("g 9 1:\n", at(0, Law::Text)),
+        ("g 9 1:\ng 9 4: 1*2\n", at(11, Law::Cell)),
     ] {
         assert!(rt; chains(rt.alloc(), text) == Some(wanted), "{text}");
     }
     for (text, wanted) in [
         ("m 1: 0 6\nm 1: 5 4\n", Ok((4, 0))),
-        ("m 1: 0 7\nm 1: 5 4\n", at(0, Law::Text)),
-        ("m 1: 0 6\nm 1: 5\n", at(1, Law::Text)),
-        ("m 1: 0 6\nm 1: 5 4 3\n", at(1, Law::Text)),
-        ("m 1: 0 6\nm 2: 5 4\n", at(1, Law::Text)),
+        ("m 1: 0 7\nm 1: 5 4\n", at(18, Law::Text)),
+        ("m 1: 0 6\nm 1: 5\n", at(7, Law::Text)),
+        ("m 1: 0 6\nm 1: 5 4 3\n", at(11, Law::Text)),
+        ("m 1: 0 6\nm 2: 5 4\n", at(9, Law::Text)),
     ] {
         assert!(rt; rows(rt.alloc(), text) == wanted, "{text}");
     }

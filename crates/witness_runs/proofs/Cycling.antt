@@ -47,8 +47,8 @@ cycles_smaller p low top kinds rest k c behind d =
     let a = length-append (chain_line (codes "z") (k ∷ []) c) behind in
     let b : 0 < length (chain_line (codes "z") (k ∷ []) c) = omega arith in omega arith
 
-pub stop_cycles : (p top : ℕ) (kinds bytes : List ℕ) (zs : List (ℕ × List (ℕ × ℕ))) (low : ℕ) (rest : List ℕ) (line : ℕ) (miss : Miss) → HasCycles p top kinds bytes zs low rest → BeginsWithZ rest
-    → line ≡ length zs → MissesCycle p low top kinds rest miss → StopsCycles p top kinds bytes (stop_at line miss)
-stop_cycles p top kinds bytes zs low rest line misses.Text h b e m = record { low = low; cycles = zs; rest = rest; has = h; many = sym e; begins = b; here = m }
-stop_cycles p top kinds bytes zs low rest line misses.Cell h b e m = record { low = low; cycles = zs; rest = rest; has = h; many = sym e; begins = b; here = m }
-stop_cycles p top kinds bytes zs low rest line misses.NoMemory h b e m = tt
+pub stop_cycles : (p top : ℕ) (kinds bytes : List ℕ) (zs : List (ℕ × List (ℕ × ℕ))) (low : ℕ) (rest : List ℕ) (left : ℕ) (miss : Miss) → HasCycles p top kinds bytes zs low rest → BeginsWithZ rest
+    → left ≡ length rest → MissesCycle p low top kinds rest miss → StopsCycles p top kinds bytes (stop_at left miss)
+stop_cycles p top kinds bytes zs low rest left misses.Text h b e m = record { low = low; cycles = zs; rest = rest; has = h; begins = b; left_is = e; here = m }
+stop_cycles p top kinds bytes zs low rest left misses.Cell h b e m = record { low = low; cycles = zs; rest = rest; has = h; begins = b; left_is = e; here = m }
+stop_cycles p top kinds bytes zs low rest left misses.NoMemory h b e m = tt

@@ -4,7 +4,7 @@ use Rattle.std.proofs.lemmas.List.{append-nil, length-append}
 use Rattle.witness_laws.specs.Lines.{row_line}
 use Rattle.witness_scanning.specs.Terms.{AreBelow}
 use Rattle.witness_scanning.specs.Lines.{HasRowLine, HasNoRowLine}
-use Rattle.witness_runs.specs.Rows.{rows_text, AreRows, joined, HasRows, StopsAtRow}
+use Rattle.witness_runs.specs.Rows.{rows_text, AreRows, joined, HasRows, StopsAt}
 
 text_push : (k : ℕ) (rs : List (List ℕ)) (r u : List ℕ) → rows_text k (rs ++ r ∷ []) ++ u ≡ rows_text k rs ++ (row_line k r ++ u)
 text_push k [] r u = ap (λ t. t ++ u) (append-nil (row_line k r))
@@ -31,5 +31,5 @@ rows_more p k width i bytes es more rest r behind h q e = record {
   entries_are = e ∙ ap (λ t. t ++ r) h.entries_are ∙ sym (joined_push h.rows r);
 }
 
-pub stop_row : (p k width height i : ℕ) (bytes es rest : List ℕ) → i < height → HasRows p k width i bytes es rest → HasNoRowLine k width p rest → StopsAtRow p k width height bytes i
-stop_row p k width height i bytes es rest l h f = record { within = l; entries = es; rest = rest; has = h; here = f }
+pub stop_row : (p k width height i : ℕ) (bytes es rest : List ℕ) → i < height → HasRows p k width i bytes es rest → HasNoRowLine k width p rest → StopsAt p k width height bytes (length rest)
+stop_row p k width height i bytes es rest l h f = record { line = i; within = l; entries = es; rest = rest; has = h; left_is = refl; here = f }

@@ -68,20 +68,9 @@ run_more p word first ns kinds wanted i bytes cs more c rest behind l r h d e =
     subst (λ (x : List (List (ℕ × ℕ))). HasRun p word first ns (i + 1) bytes x behind × NameKinds kinds wanted x (i + 1)) (sym e)
     (run_push p word first ns i (i + 1) bytes cs c rest behind refl l r d.are d.split, names_push kinds wanted i (i + 1) cs c refl r.many h d.names)
 
-pub stop_from : (p : ℕ) (word : List ℕ) (first : Option ℕ) (ns kinds wanted : List ℕ) (i : ℕ) (bytes : List ℕ) (cs : List (List (ℕ × ℕ))) (rest : List ℕ) (miss : Miss) → i < length ns
-    → HasRun p word first ns i bytes cs rest → NameKinds kinds wanted cs i → MissesChain p word (head_of first (get_or ns i 0)) kinds (get_or wanted i 0) rest miss
-    → StopsRun p word first ns kinds wanted bytes (stop_at i miss)
-stop_from p word first ns kinds wanted i bytes cs rest misses.Text l r h m = record { within = l; chains = cs; rest = rest; run = r; names = h; here = m }
-stop_from p word first ns kinds wanted i bytes cs rest misses.Cell l r h m =
-    let c : List (ℕ × ℕ) = m.terms in
-    let k : length cs ≡ i = r.many in
-    let here : nth (cs ++ c ∷ []) i ≡ c = ap (nth (cs ++ c ∷ [])) (sym k) ∙ at_new cs c in
-    record {
-      within = l;
-      chains = cs ++ c ∷ [];
-      rest = m.rest;
-      run = run_push p word first ns i (suc i) bytes cs c rest m.rest (omega arith) l r m.are m.split;
-      names = λ j q. subst (NamesKind kinds (get_or wanted j 0)) (sym (at_old cs c j (omega arith))) (h j q);
-      here = λ q. m.other (subst (NamesKind kinds (get_or wanted i 0)) here q);
-    }
-stop_from p word first ns kinds wanted i bytes cs rest misses.NoMemory l r h m = tt
+pub stop_from : (p : ℕ) (word : List ℕ) (first : Option ℕ) (ns kinds wanted : List ℕ) (i : ℕ) (bytes : List ℕ) (cs : List (List (ℕ × ℕ))) (rest : List ℕ) (left : ℕ) (miss : Miss) → i < length ns
+    → HasRun p word first ns i bytes cs rest → NameKinds kinds wanted cs i → left ≡ length rest → MissesChain p word (head_of first (get_or ns i 0)) kinds (get_or wanted i 0) rest miss
+    → StopsRun p word first ns kinds wanted bytes (stop_at left miss)
+stop_from p word first ns kinds wanted i bytes cs rest left misses.Text l r h e m = record { line = i; within = l; chains = cs; rest = rest; run = r; names = h; left_is = e; here = m }
+stop_from p word first ns kinds wanted i bytes cs rest left misses.Cell l r h e m = record { line = i; within = l; chains = cs; rest = rest; run = r; names = h; left_is = e; here = m }
+stop_from p word first ns kinds wanted i bytes cs rest left misses.NoMemory l r h e m = tt

@@ -4,11 +4,12 @@ use Rattle.witness_laws.specs.declared.law.Law.{Law}
 use Rattle.witness_laws.specs.declared.law.Law.TheVariants as laws
 use Rattle.witness_laws.specs.Lines.{chain_line}
 use Rattle.witness_laws.specs.Parts.{AreTerms}
-use Rattle.witness_scanning.specs.Lines.{HasNoCycleLine}
+use Rattle.witness_runs.specs.declared.miss.Miss.{Miss}
+use Rattle.witness_runs.specs.declared.miss.Miss.TheVariants as misses
 use Rattle.witness_runs.specs.declared.miss.Stop.{Stop}
 use Rattle.witness_runs.specs.declared.miss.Stop.TheVariants as stops
 use Rattle.witness_runs.specs.Kinds.{NamesKind}
-use Rattle.witness_runs.specs.Due.{IsOtherCycle}
+use Rattle.witness_runs.specs.Due.{MissesCycle}
 
 abbrev pub BeginsWithZ : List ℕ → Type 0
 BeginsWithZ [] = ⊥
@@ -44,25 +45,22 @@ pub record AreCyclesAt (p top : ℕ) (kinds bytes : List ℕ) (cycles : List (�
   pub has : HasCycles p top kinds bytes cycles low rest
   pub over : BeginsWithZ rest → ⊥
 
--- behind so many cycles stands a line that begins like one of a cycle and is none that may stand
--- there, or names other cells
-pub record StopsAt (p top : ℕ) (kinds bytes : List ℕ) (line : ℕ)
-    (Here : ℕ → List ℕ → Type 0) : Type 0 where
+-- behind cycles, where so many bytes are left, stands a line that begins like one of a cycle and is
+-- none that may stand there, or names other cells
+pub record StopsAt (p top : ℕ) (kinds bytes : List ℕ) (left : ℕ) (miss : Miss) : Type 0 where
   pub low : ℕ
   pub cycles : List (ℕ × List (ℕ × ℕ))
   pub rest : List ℕ
   pub has : HasCycles p top kinds bytes cycles low rest
-  pub many : length cycles ≡ line
   pub begins : BeginsWithZ rest
-  pub here : Here low rest
+  pub left_is : left ≡ length rest
+  pub here : MissesCycle p low top kinds rest miss
 
 abbrev pub StopsCyclesWith : ℕ → ℕ → List ℕ → List ℕ → ℕ → Law → Type 0
-StopsCyclesWith p top kinds bytes line laws.Text =
-    StopsAt p top kinds bytes line (λ low rest. HasNoCycleLine low top p rest)
-StopsCyclesWith p top kinds bytes line laws.Cell =
-    StopsAt p top kinds bytes line (λ low rest. IsOtherCycle p low top kinds rest)
-StopsCyclesWith p top kinds bytes line law = ⊥
+StopsCyclesWith p top kinds bytes left laws.Text = StopsAt p top kinds bytes left misses.Text
+StopsCyclesWith p top kinds bytes left laws.Cell = StopsAt p top kinds bytes left misses.Cell
+StopsCyclesWith p top kinds bytes left law = ⊥
 
 abbrev pub StopsCycles : ℕ → ℕ → List ℕ → List ℕ → Stop → Type 0
-StopsCycles p top kinds bytes (stops.At line law) = StopsCyclesWith p top kinds bytes line law
+StopsCycles p top kinds bytes (stops.At left law) = StopsCyclesWith p top kinds bytes left law
 StopsCycles p top kinds bytes stops.NoMemory = Unit {0}

@@ -7,6 +7,6 @@ use Rattle.witness_runs.specs.declared.miss.Stop.{Stop}
 use Rattle.witness_runs.specs.declared.miss.Stop.TheVariants as stops
 
 abbrev pub stop_at : ℕ → Miss → Stop
-stop_at line misses.Text = stops.At line laws.Text
-stop_at line misses.Cell = stops.At line laws.Cell
-stop_at line misses.NoMemory = stops.NoMemory
+stop_at left misses.Text = stops.At left laws.Text
+stop_at left misses.Cell = stops.At left laws.Cell
+stop_at left misses.NoMemory = stops.NoMemory

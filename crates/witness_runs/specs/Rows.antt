@@ -30,20 +30,21 @@ pub record HasRows (p degree width count : ℕ) (bytes entries rest : List ℕ) 
   pub split : bytes ≡ rows_text degree rows ++ rest
   pub entries_are : entries ≡ joined rows
 
--- they stand up to this line, and it does not stand behind them
-pub record StopsAtRow (p degree width height : ℕ) (bytes : List ℕ) (line : ℕ) : Type 0 where
+-- they do not all stand there: where so many bytes are left no further one stands
+pub record StopsAt (p degree width height : ℕ) (bytes : List ℕ) (left : ℕ) : Type 0 where
+  pub line : ℕ
   pub within : line < height
   pub entries : List ℕ
   pub rest : List ℕ
   pub has : HasRows p degree width line bytes entries rest
+  pub left_is : left ≡ length rest
   pub here : HasNoRowLine degree width p rest
 
 abbrev pub StopsRowsWith : ℕ → ℕ → ℕ → ℕ → List ℕ → ℕ → Law → Type 0
-StopsRowsWith p degree width height bytes line laws.Text =
-    StopsAtRow p degree width height bytes line
-StopsRowsWith p degree width height bytes line law = ⊥
+StopsRowsWith p degree width height bytes left laws.Text = StopsAt p degree width height bytes left
+StopsRowsWith p degree width height bytes left law = ⊥
 
 abbrev pub StopsRows : ℕ → ℕ → ℕ → ℕ → List ℕ → Stop → Type 0
-StopsRows p degree width height bytes (stops.At line law) =
-    StopsRowsWith p degree width height bytes line law
+StopsRows p degree width height bytes (stops.At left law) =
+    StopsRowsWith p degree width height bytes left law
 StopsRows p degree width height bytes stops.NoMemory = Unit {0}

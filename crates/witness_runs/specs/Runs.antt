@@ -4,10 +4,12 @@ use Rattle.witness_laws.specs.declared.law.Law.{Law}
 use Rattle.witness_laws.specs.declared.law.Law.TheVariants as laws
 use Rattle.witness_laws.specs.Lines.{chain_line}
 use Rattle.witness_laws.specs.Parts.{AreTerms, nth}
-use Rattle.witness_scanning.specs.Lines.{HasNoChainLine}
+use Rattle.witness_runs.specs.declared.miss.Miss.{Miss}
+use Rattle.witness_runs.specs.declared.miss.Miss.TheVariants as misses
 use Rattle.witness_runs.specs.declared.miss.Stop.{Stop}
 use Rattle.witness_runs.specs.declared.miss.Stop.TheVariants as stops
 use Rattle.witness_runs.specs.Kinds.{NamesKind}
+use Rattle.witness_runs.specs.Due.{MissesChain}
 
 -- the numbers of a line: one, or one behind a first that all lines of the run have
 abbrev pub head_of : Option ℕ → ℕ → List ℕ
@@ -33,35 +35,28 @@ abbrev pub NameKinds : List ℕ → List ℕ → List (List (ℕ × ℕ)) → �
 NameKinds kinds wanted chains count = (i : ℕ) → i < count
     → NamesKind kinds (slice_index wanted i) (nth chains i)
 
--- the run stops at this line: the lines before it stand at the front and name cells of their kinds,
--- and this one does not stand behind them
-pub record StopsAtText (p : ℕ) (word : List ℕ) (first : Option ℕ) (numbers kinds wanted : List ℕ)
-    (bytes : List ℕ) (line : ℕ) : Type 0 where
+-- the run stops where so many bytes are left: the lines before stand at the front and name cells of
+-- their kinds, and here stands none that is due, or one that names other cells
+pub record StopsAt (p : ℕ) (word : List ℕ) (first : Option ℕ) (numbers kinds wanted : List ℕ)
+    (bytes : List ℕ) (left : ℕ) (miss : Miss) : Type 0 where
+  pub line : ℕ
   pub within : line < length numbers
   pub chains : List (List (ℕ × ℕ))
   pub rest : List ℕ
   pub run : HasRun p word first numbers line bytes chains rest
   pub names : NameKinds kinds wanted chains line
-  pub here : HasNoChainLine word (head_of first (slice_index numbers line)) p rest
-
--- or it stands there, and names other cells
-pub record StopsAtCell (p : ℕ) (word : List ℕ) (first : Option ℕ) (numbers kinds wanted : List ℕ)
-    (bytes : List ℕ) (line : ℕ) : Type 0 where
-  pub within : line < length numbers
-  pub chains : List (List (ℕ × ℕ))
-  pub rest : List ℕ
-  pub run : HasRun p word first numbers (suc line) bytes chains rest
-  pub names : NameKinds kinds wanted chains line
-  pub here : NamesKind kinds (slice_index wanted line) (nth chains line) → ⊥
+  pub left_is : left ≡ length rest
+  pub here : MissesChain p word (head_of first (slice_index numbers line)) kinds
+      (slice_index wanted line) rest miss
 
 abbrev pub StopsWith : ℕ → List ℕ → Option ℕ → List ℕ → List ℕ → List ℕ → List ℕ → ℕ → Law → Type 0
-StopsWith p word first numbers kinds wanted bytes line laws.Text =
-    StopsAtText p word first numbers kinds wanted bytes line
-StopsWith p word first numbers kinds wanted bytes line laws.Cell =
-    StopsAtCell p word first numbers kinds wanted bytes line
-StopsWith p word first numbers kinds wanted bytes line law = ⊥
+StopsWith p word first numbers kinds wanted bytes left laws.Text =
+    StopsAt p word first numbers kinds wanted bytes left misses.Text
+StopsWith p word first numbers kinds wanted bytes left laws.Cell =
+    StopsAt p word first numbers kinds wanted bytes left misses.Cell
+StopsWith p word first numbers kinds wanted bytes left law = ⊥
 
 abbrev pub StopsRun : ℕ → List ℕ → Option ℕ → List ℕ → List ℕ → List ℕ → List ℕ → Stop → Type 0
-StopsRun p word first numbers kinds wanted bytes (stops.At line law) =
-    StopsWith p word first numbers kinds wanted bytes line law
+StopsRun p word first numbers kinds wanted bytes (stops.At left law) =
+    StopsWith p word first numbers kinds wanted bytes left law
 StopsRun p word first numbers kinds wanted bytes stops.NoMemory = Unit {0}

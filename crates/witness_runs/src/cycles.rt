@@ -54,7 +54,7 @@ pub fn cycles_due<'a, const P: u16>(
                 low = degree;
                 rest = behind;
             }
-            Err(miss) => return Err(Stop::at(cycles.len(), miss)),
+            Err(miss) => return Err(Stop::at(rest.len(), miss)),
         }
     }
     Ok((cycles, rest))

@@ -27,11 +27,12 @@ impl From<AllocError> for Miss {
     }
 }
 
-/// The first line of a run that fails, and the law by which it does, or no memory.
+/// How many bytes are left from the first line on that fails, and the law by which it does, or no
+/// memory.
 #[derive(Debug, Clone, Copy, PartialEq, Eq)]
 pub enum Stop {
-    /// Lines of the run count from 0.
-    At { line: usize, law: Law },
+    /// The line that fails stands at the front of the bytes that are left.
+    At { left: usize, law: Law },
     /// Memory ran out.
     NoMemory,
 }
@@ -48,17 +49,17 @@ impl From<AllocError> for Stop {
 }
 
 impl Stop {
-    /// A miss at a line.
-    pub(crate) fn at(line: usize, miss: Miss) -> Stop
-        ensures { result ≡ stop_at line miss }
+    /// A miss at the front of so many bytes.
+    pub(crate) fn at(left: usize, miss: Miss) -> Stop
+        ensures { result ≡ stop_at left miss }
     {
         match miss {
             Miss::Text => Stop::At {
-                line,
+                left,
                 law: Law::Text,
             },
             Miss::Cell => Stop::At {
-                line,
+                left,
                 law: Law::Cell,
             },
             Miss::NoMemory => Stop::NoMemory,

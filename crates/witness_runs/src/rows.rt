@@ -39,7 +39,7 @@ pub fn rows_due(
             }
             None => {
                 return Err(Stop::At {
-                    line: line as usize,
+                    left: rest.len(),
                     law: Law::Text,
                 });
             }

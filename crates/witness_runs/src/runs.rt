@@ -78,7 +78,7 @@ pub fn chains_due<'a, const P: u16>(
                 keep(&mut chains, chain)?;
                 rest = behind;
             }
-            Err(miss) => return Err(Stop::at(line, miss)),
+            Err(miss) => return Err(Stop::at(rest.len(), miss)),
         }
     }
     Ok((chains, rest))

@@ -1,4 +1,4 @@
-use Rattle.std.proofs.Common.{ℕ, List, arith, sym, subst}
+use Rattle.std.proofs.Common.{List, arith, length, refl, subst, sym, ℕ}
 use Rattle.witness_runs.specs.Runs.{HasRun, StopsRun}
 use Rattle.witness_runs.proofs.Running.{run_none, run_more, stop_from}
 use Rattle.witness_runs.proofs.runs.chains_due.Goals as goal
@@ -19,5 +19,5 @@ loop-line-preserved g c =
 pub returns-in-Err-clause-err : goal.returns-in-Err-clause-err
 returns-in-Err-clause-err g c =
     subst (StopsRun g.row.P c.args.word.now c.args.first c.args.numbers.now c.args.kinds.now c.args.wanted.now c.args.bytes.now) (sym c.at.ensures)
-    (stop_from g.row.P c.args.word.now c.args.first c.args.numbers.now c.args.kinds.now c.args.wanted.now c.loop-line.line c.args.bytes.now c.loop-line.chains.items c.loop-line.rest.now c.in-Err.miss
-    (omega arith) c.loop-line.invariant.run c.loop-line.invariant.names c.in-Err.ensures.err)
+    (stop_from g.row.P c.args.word.now c.args.first c.args.numbers.now c.args.kinds.now c.args.wanted.now c.loop-line.line c.args.bytes.now c.loop-line.chains.items c.loop-line.rest.now (length c.loop-line.rest.now) c.in-Err.miss
+    (omega arith) c.loop-line.invariant.run c.loop-line.invariant.names refl c.in-Err.ensures.err)
