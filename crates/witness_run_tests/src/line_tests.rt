@@ -51,8 +51,14 @@ fn lines_of_chains(rt: HostRuntime) {
         ("h 5: 1*02\n", Some(Miss::Text)),
         ("h 5: 1*3 1*2\n", Some(Miss::Text)),
         ("h 5: 1*2 1*2\n", Some(Miss::Text)),
-        ("h 5: 1*99999999999999999999 1*99999999999999999998\n", Some(Miss::Text)),
-        ("h 5: 1*99999999999999999998 1*99999999999999999999\n", Some(Miss::Cell)),
+        (
+            "h 5: 1*99999999999999999999 1*99999999999999999998\n",
+            Some(Miss::Text),
+        ),
+        (
+            "h 5: 1*99999999999999999998 1*99999999999999999999\n",
+            Some(Miss::Cell),
+        ),
         ("h 5: 1*5\n", Some(Miss::Cell)),
         ("h 5: 1*0\n", Some(Miss::Cell)),
         ("h 5: 1*2 1*4\n", Some(Miss::Cell)),

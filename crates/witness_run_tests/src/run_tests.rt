@@ -19,7 +19,16 @@ fn cycles(alloc: Global, text: &str) -> Option<Result<(usize, usize), Stop>> {
 // The same of the lines `g 9 1:` of a chain of edges and `g 9 4:` of a chain of vertices.
 fn chains(alloc: Global, text: &str) -> Option<Result<(usize, usize), Stop>> {
     let field = Field::<7>::get()?;
-    match chains_due(alloc, field, text.as_bytes(), b"g", Some(9), &[1, 4], &KINDS, &[2, 1]) {
+    match chains_due(
+        alloc,
+        field,
+        text.as_bytes(),
+        b"g",
+        Some(9),
+        &[1, 4],
+        &KINDS,
+        &[2, 1],
+    ) {
         Ok((chains, rest)) => Some(Ok((chains.len(), rest.len()))),
         Err(stop) => Some(Err(stop)),
     }

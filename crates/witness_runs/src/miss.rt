@@ -49,8 +49,8 @@ impl From<AllocError> for Stop {
 }
 
 impl Stop {
-    /// A miss at the front of so many bytes.
-    pub(crate) fn at(left: usize, miss: Miss) -> Stop
+    /// A miss at the front of so many bytes. It takes no memory.
+    pub fn at(left: usize, miss: Miss) -> Stop
         ensures { result ≡ stop_at left miss }
     {
         match miss {

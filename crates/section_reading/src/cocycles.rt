@@ -1,7 +1,7 @@
 //! The cocycles of a section: one for each cycle, of its degree.
 ghost use Rattle.std.specs.Prelude.{◌≡◌, ◌+◌, ◌-◌, ◌<◌, ◌≤◌, ◌^◌, [], codes, length, map, min, None, IfOk, IfErr};
 ghost use Rattle.witness_runs.specs.Runs.{HasRun, NameKinds, StopsRun};
-ghost use Rattle.witness_sections.specs.Section.{degrees_of, kinds_of};
+ghost use Rattle.section_reading.specs.Section.{degrees_of, kinds_of};
 
 use chains::Chain;
 use field_mod::Field;

@@ -2,7 +2,9 @@
 //! relative cells of a pair.
 #![tactic(auto)]
 
+mod cell;
 mod cocycles;
 mod section;
 
+pub use cell::{CellPart, cell_due};
 pub use section::section_due;

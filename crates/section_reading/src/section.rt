@@ -1,6 +1,6 @@
 //! The section of a pair.
 ghost use Rattle.std.specs.Prelude.{◌≡◌, ◌-◌, ◌<◌, ◌^◌, length, IfOk, IfErr};
-ghost use Rattle.witness_sections.specs.Section.{HasPair, StopsPair, HasSection, StopsSection};
+ghost use Rattle.section_reading.specs.Section.{HasPair, StopsPair, HasSection, StopsSection};
 
 use crate::cocycles::cocycles_due;
 use field_mod::Field;

@@ -1,6 +1,5 @@
 -- The section of a pair: a first line, cycles, cocycles, and a chain for each relative cell.
-use Rattle.std.specs.Prelude.{◌≡◌, ℕ, ◌+◌, ◌⊎◌, List, [], ◌∷◌, ◌++◌, length, map, codes, None}
-use Rattle.witness_laws.specs.declared.law.Law.{Law}
+use Rattle.std.specs.Prelude.{◌≡◌, ℕ, ◌+◌, ◌⊎◌, List, ◌++◌, length, map, codes, None}
 use Rattle.witness_laws.specs.declared.law.Law.TheVariants as laws
 use Rattle.witness_scanning.specs.Fronts.{BeginsOtherwise}
 use Rattle.witness_runs.specs.declared.miss.Stop.{Stop}
@@ -43,13 +42,13 @@ pub record StopsInCocycles (p top : ℕ) (kinds bytes : List ℕ) (stop : Stop) 
 -- the first chain of a relative cell that fails, behind the cocycles
 pub record StopsInChains (p top : ℕ) (kinds numbers wanted bytes : List ℕ) (stop : Stop) : Type 0
   where
-  pub cycles : List (ℕ × List (ℕ × ℕ))
-  pub cocycles : List (List (ℕ × ℕ))
-  pub behind : List ℕ
-  pub last : List ℕ
-  pub first : AreCyclesAt p top kinds bytes cycles behind
-  pub second : HasCocycles p kinds behind cycles cocycles last
-  pub here : StopsRun p (codes "h") None numbers kinds wanted last stop
+    pub cycles : List (ℕ × List (ℕ × ℕ))
+    pub cocycles : List (List (ℕ × ℕ))
+    pub behind : List ℕ
+    pub last : List ℕ
+    pub first : AreCyclesAt p top kinds bytes cycles behind
+    pub second : HasCocycles p kinds behind cycles cocycles last
+    pub here : StopsRun p (codes "h") None numbers kinds wanted last stop
 
 abbrev pub StopsPair : ℕ → ℕ → List ℕ → List ℕ → List ℕ → List ℕ → Stop → Type 0
 StopsPair p top kinds numbers wanted bytes stop = StopsCycles p top kinds bytes stop

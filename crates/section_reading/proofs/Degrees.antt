@@ -1,7 +1,7 @@
 -- The degrees and kinds of cycles.
-use Rattle.std.proofs.Common.{◌≡◌, ℕ, ◌+◌, ◌<◌, ◌≤◌, min, refl, sym, ap, ◌∙◌, arith, List, [], ◌∷◌, length, map}
+use Rattle.std.proofs.Common.{◌≡◌, ℕ, ◌+◌, ◌<◌, ◌≤◌, min, refl, ap, ◌∙◌, arith, List, [], ◌∷◌, map}
 use Rattle.witness_runs.specs.Cycles.{AreCycles, AreCyclesAt}
-use Rattle.witness_sections.specs.Section.{degrees_of, kinds_of}
+use Rattle.section_reading.specs.Section.{degrees_of, kinds_of}
 
 low_high : (p low high : ℕ) (zs : List (ℕ × List (ℕ × ℕ))) → AreCycles p low high zs → low ≤ high
 low_high p low high [] h = h
