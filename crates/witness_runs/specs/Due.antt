@@ -34,7 +34,8 @@ MissesKind kinds wanted terms misses.Text = ⊥
 MissesKind kinds wanted terms misses.Cell = NamesKind kinds wanted terms → ⊥
 MissesKind kinds wanted terms misses.NoMemory = Unit {0}
 
--- the line of a cycle, of a degree from low to top, whose terms name cells of the kind of the degree
+-- the line of a cycle, of a degree from low to top, whose terms name cells of the kind of the
+-- degree
 pub record IsDueCycle (p low top : ℕ) (kinds bytes : List ℕ) (degree : ℕ) (terms : List (ℕ × ℕ))
     (rest : List ℕ) : Type 0 where
   pub above : low ≤ degree
