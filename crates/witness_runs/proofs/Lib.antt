@@ -1,0 +1,4 @@
+pub mod Naming
+pub mod Running
+pub mod Cycling
+pub mod Rowing
