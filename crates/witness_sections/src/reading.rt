@@ -10,8 +10,8 @@ use elem_cubes::Cell;
 use field_mod::Field;
 use std::alloc::{AllocError, Global};
 
-// The cell of a number in the file, where numbers count from 1.
-fn cell_of(cells: &Numbered, number: u32) -> Cell
+/// The cell of a number in the file, where numbers count from 1.
+pub fn cell_of(cells: &Numbered, number: u32) -> Cell
     requires positive { 0 < number }
     requires inside { number ≤ length cells.now }
     ensures { result ≡ cell_at cells.now (number - 1) }

@@ -3,5 +3,7 @@
 #![tactic(auto)]
 
 mod fillings;
+mod images;
 
 pub use fillings::test_fillings;
+pub use images::image_fault;
