@@ -5,7 +5,6 @@ use Rattle.std.proofs.lemmas.List.{map-set, length-map, length-set, length-appen
 use Rattle.std.proofs.lemmas.List as lists
 use Rattle.std.proofs.Math.Seq.{get_or-append_seam}
 use native.Mathlib.Nat.{mod-mod}
-use Rattle.field_mod.specs.Modular.{Same}
 use Rattle.field_mod.proofs.Modular.{same_trans}
 use Rattle.chains.specs.Terms.{coefficient, nth_chain, IsNormal}
 use Rattle.chains.proofs.TermLists.{coefficient-append}

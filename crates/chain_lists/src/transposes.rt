@@ -1,6 +1,5 @@
 //! Transposes: for each generator the chains that have it.
 ghost use Rattle.std.specs.Prelude.{◌≡◌, ℕ, ◌<◌, ◌^◌, [], length, slice_index_or, IfOk, OnOk};
-
 ghost use Rattle.chain_lists.specs.Lists.{IsTranspose, AddsColumn, AreSums};
 
 use crate::gathered::Gathered;

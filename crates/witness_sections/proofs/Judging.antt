@@ -1,5 +1,5 @@
 -- The laws of a section, over the numbers of its cells and over the cells.
-use Rattle.std.proofs.Common.{◌≡◌, ◌≢◌, ℕ, zero, suc, ◌+◌, ◌*◌, ◌<◌, ◌≤◌, refl, sym, ap, ◌∙◌, subst, arith, ⊎_elim, List, [], ◌∷◌, length, get_or, Bool, true, false, cond, eqb, eq-eqb, ne_eqb}
+use Rattle.std.proofs.Common.{◌≡◌, ℕ, zero, suc, ◌+◌, ◌*◌, ◌<◌, ◌≤◌, refl, sym, ap, ◌∙◌, subst, arith, ⊎_elim, List, [], ◌∷◌, length, get_or, true, cond, eqb, eq-eqb, ne_eqb}
 use Rattle.std.proofs.lemmas.Bool.{cases_lt, cases_eq}
 use Rattle.std.proofs.lemmas.List.{get_or_past, get_or-map}
 use native.Mathlib.Nat.{mul-zero}
@@ -25,11 +25,11 @@ use Rattle.homology_basis.specs.Bases.{in_degree}
 use Rattle.chain_lists.specs.Lists.{IsTranspose}
 use Rattle.witness_laws.specs.Inputs.{all_cells, relative_cells}
 use Rattle.witness_laws.specs.Parts.{chain_of, nth}
-use Rattle.witness_laws.specs.Sections.{IsClosedAt, IsDualAt, IsCocycleAt, ContractsAt}
+use Rattle.witness_laws.specs.Sections.{IsClosedAt, IsCocycleAt, ContractsAt}
 use Rattle.witness_laws.specs.Tables.{PairTables, section_of}
 use Rattle.witness_sections.specs.declared.section.Degree.{Degree}
 use Rattle.witness_sections.specs.declared.section.Section.{Section}
-use Rattle.witness_sections.specs.Readings.{IsRead, AreRead, IsDegreeOf, IsSectionOf, IsNoneBy, IsDualBy, ContractsBy, projection_by}
+use Rattle.witness_sections.specs.Readings.{IsRead, AreRead, IsSectionOf, IsNoneBy, IsDualBy, ContractsBy, projection_by}
 use Rattle.witness_sections.proofs.Testing.{single-flip}
 
 module _ (p : ℕ) (x a : List (List Factor)) (K : ChainComplex) (R : IsRelativeComplex p x a (relative_cells x a) K) where

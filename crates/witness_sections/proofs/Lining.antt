@@ -1,8 +1,8 @@
 -- Lines of a list, one after the other.
-use Rattle.std.proofs.Common.{◌≡◌, ℕ, zero, suc, ◌+◌, ◌<◌, ◌≤◌, refl, sym, ap, ◌∙◌, arith, List, [], ◌∷◌, ◌++◌, length, length-append, append_assoc, subst}
+use Rattle.std.proofs.Common.{◌≡◌, ℕ, zero, suc, ◌+◌, ◌<◌, refl, sym, ap, ◌∙◌, arith, List, [], ◌∷◌, ◌++◌, length, length-append, append_assoc, subst}
 use Rattle.witness_laws.specs.declared.law.Law.{Law}
 use Rattle.witness_laws.specs.Lines.{Line, each}
-use Rattle.witness_sections.specs.Outcomes.{AllHold, FailsBy, Meet, Fails}
+use Rattle.witness_sections.specs.Outcomes.{Meet, Fails}
 
 module _ (H : Law → Line → Type 0) where
   pub meet_append : (ks ls : List Line) → Meet H ks → Meet H ls → Meet H (ks ++ ls)

@@ -13,8 +13,8 @@ use Rattle.witness_laws.specs.Parts.{nth}
 use Rattle.witness_laws.specs.Tables.{PairTables, Tables, pair_of, holds}
 use Rattle.witness_sections.specs.declared.section.Degree.{Degree}
 use Rattle.witness_sections.specs.declared.section.Section.{Section}
-use Rattle.witness_sections.specs.Outcomes.{AllHold, FailsBy, IsLineOutcome, Meet, Fails, ArePassed, IsFaultAmong}
-use Rattle.witness_sections.specs.Readings.{IsRead, IsDegreeOf, IsSideOf, ArePassedOf, IsFaultOf, IsNoneBy, IsDualBy, IsCocycleOutcome, ContractsBy, cycles_in, cocycles_in, homotopy_lines, count_at, cycle_count}
+use Rattle.witness_sections.specs.Outcomes.{FailsBy, IsLineOutcome, Meet, Fails, ArePassed, IsFaultAmong}
+use Rattle.witness_sections.specs.Readings.{IsRead, IsDegreeOf, IsSideOf, ArePassedOf, IsFaultOf, IsNoneBy, IsCocycleOutcome, ContractsBy, cycles_in, cocycles_in, homotopy_lines, count_at, cycle_count}
 use Rattle.witness_sections.proofs.Lining.{meet_more, fails_in_each, length_each, length_more}
 use Rattle.witness_sections.proofs.Judging.{closed_to, closed_from, dual_to, dual_from, cocycle_to, cocycle_from, contracts_to, contracts_from}
 use Rattle.witness_sections.proofs.Telling.{cycle_holds, cycle_fails, cocycle_holds, dual_fails, cocycle_fails, homotopy_holds, homotopy_fails}
@@ -187,8 +187,7 @@ module _ {p : ℕ} (s : Section p) where
     pub degrees_fault : (k from next : ℕ) (fault : WitnessFault) → k < length s.degrees.items → DegreesPassed k from next → IsFaultOf s (lines k) next fault → IsFaultOf s (λ S side. each (length S.cycles) (λ j. lines j S side)) from fault
     degrees_fault k from next (At line law) l so_far here G W side w =
         let a = so_far G W side w in
-        let b = here G W side w in
-        (
+        let b = here G W side w in (
           length (each k (λ j. lines j (pair_of W side) side)) + b.0,
           (let f = a.next in let g = b.1 in omega (arith, f, g)),
           fails_in_each (holds p G W) k (length (pair_of W side).cycles) b.0 law (λ j. lines j (pair_of W side) side) (let c = w.count in omega (arith, c, l)) a.meet b.2,

@@ -62,11 +62,11 @@ one_degree {p} cells to part k ds es d new here so_far = record {
   count = ap length new ∙ length-append ds (d ∷ []) ∙ ap (λ n. n + 1) so_far.count;
   each = λ j e l. ⊎_elim
       (λ below. subst (λ (b : Degree p). IsDegreeOf cells to (beside j (degrees_of part.cycles.items) (map (λ z. z.1) part.cycles.items)) (beside j (degrees_of part.cycles.items) part.cocycles.items) b)
-          (sym (ap (λ (xs : List (Degree p)). get_or xs j e) new ∙ get_or_append_left ds (d ∷ []) e j (omega (arith, below, so_far.count)))) (so_far.each j e below))
+      (sym (ap (λ (xs : List (Degree p)). get_or xs j e) new ∙ get_or_append_left ds (d ∷ []) e j (omega (arith, below, so_far.count)))) (so_far.each j e below))
       (λ above. let q : k ≡ j = omega (arith, above, l) in
-          subst (λ (b : Degree p). IsDegreeOf cells to (beside j (degrees_of part.cycles.items) (map (λ z. z.1) part.cycles.items)) (beside j (degrees_of part.cycles.items) part.cocycles.items) b)
-          (sym (ap (λ (xs : List (Degree p)). get_or xs j e) new ∙ ap (λ (n : ℕ). get_or (ds ++ d ∷ []) n e) (sym q ∙ sym so_far.count) ∙ get_or-append_seam ds d [] e))
-          (subst (λ (n : ℕ). IsDegreeOf cells to (beside n (degrees_of part.cycles.items) (map (λ z. z.1) part.cycles.items)) (beside n (degrees_of part.cycles.items) part.cocycles.items) d) q here))
+      subst (λ (b : Degree p). IsDegreeOf cells to (beside j (degrees_of part.cycles.items) (map (λ z. z.1) part.cycles.items)) (beside j (degrees_of part.cycles.items) part.cocycles.items) b)
+      (sym (ap (λ (xs : List (Degree p)). get_or xs j e) new ∙ ap (λ (n : ℕ). get_or (ds ++ d ∷ []) n e) (sym q ∙ sym so_far.count) ∙ get_or-append_seam ds d [] e))
+      (subst (λ (n : ℕ). IsDegreeOf cells to (beside n (degrees_of part.cycles.items) (map (λ z. z.1) part.cycles.items)) (beside n (degrees_of part.cycles.items) part.cocycles.items) d) q here))
       (cases_lt j k);
 }
 

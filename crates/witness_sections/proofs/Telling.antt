@@ -1,6 +1,5 @@
 -- What is told of lines: each law on the lines of its kind.
-use Rattle.std.proofs.Common.{◌≡◌, ℕ, zero, suc, ◌+◌, ◌<◌, ◌≤◌, refl, sym, ap, ◌∙◌, subst, arith, List, [], ◌∷◌, length, get_or}
-use Rattle.std.specs.List.{Contains}
+use Rattle.std.proofs.Common.{◌≡◌, ℕ, zero, suc, ◌<◌, refl, arith, length, get_or}
 use Rattle.elem_cubes.specs.Laws.{cell_at}
 use Rattle.witness_laws.specs.declared.law.Law.{Law}
 use Rattle.witness_laws.specs.declared.law.Law.TheVariants as laws

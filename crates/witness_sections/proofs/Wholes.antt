@@ -1,14 +1,11 @@
 -- All lines of a pair, and the witness alone that has its section.
-use Rattle.std.proofs.Common.{◌≡◌, ℕ, zero, suc, ◌+◌, ◌<◌, ◌≤◌, refl, sym, ap, ◌∙◌, subst, arith, List, [], ◌∷◌, ◌++◌, length, length-append, get_or}
-use Rattle.witness_laws.specs.declared.law.Law.{Law}
+use Rattle.std.proofs.Common.{◌≡◌, ℕ, suc, ◌+◌, ap, ◌∙◌, arith, List, ◌++◌, length, length-append}
 use Rattle.witness_laws.specs.declared.law.WitnessFault.{WitnessFault}
 use Rattle.witness_laws.specs.declared.law.WitnessFault.TheVariants.{At, NoMemory}
-use Rattle.witness_laws.specs.Lines.{Side, Line, section as section_line}
-use Rattle.witness_laws.specs.Inputs.{Given}
-use Rattle.witness_laws.specs.Tables.{PairTables, Tables, pair_of, holds}
+use Rattle.witness_laws.specs.Lines.{Line}
+use Rattle.witness_laws.specs.Tables.{pair_of, holds}
 use Rattle.witness_sections.specs.declared.section.Section.{Section}
-use Rattle.witness_sections.specs.Outcomes.{Meet, Fails, ArePassed, IsFaultAmong}
-use Rattle.witness_sections.specs.Readings.{IsSideOf, ArePassedOf, IsFaultOf, cycle_lines, cocycle_lines, homotopy_lines, section_lines}
+use Rattle.witness_sections.specs.Readings.{ArePassedOf, IsFaultOf, cycle_lines, cocycle_lines, homotopy_lines, section_lines}
 use Rattle.witness_sections.proofs.Lining.{meet_append, fails_front, fails_behind}
 use Rattle.witness_sections.proofs.Telling.{section_holds}
 
@@ -35,8 +32,7 @@ module _ {p : ℕ} (s : Section p) (from : ℕ) where
         let c = here G W side w in
         let A : List Line = cycle_lines (pair_of W side) side in
         let B : List Line = cocycle_lines (pair_of W side) side in
-        let C : List Line = homotopy_lines (pair_of W side) side in
-        (
+        let C : List Line = homotopy_lines (pair_of W side) side in (
           suc (length (A ++ B) + c.0),
           (let e = a.next in let f = b.next in let g = c.1 in let l = length-append A B in omega (arith, l, e, f, g)),
           (section_holds p G W side, fails_behind (holds p G W) (A ++ B) C c.0 law (meet_append (holds p G W) A B a.meet b.meet) c.2),
@@ -49,8 +45,7 @@ module _ {p : ℕ} (s : Section p) (from : ℕ) where
       let c = here G W side w in
       let A : List Line = cycle_lines (pair_of W side) side in
       let B : List Line = cocycle_lines (pair_of W side) side in
-      let C : List Line = homotopy_lines (pair_of W side) side in
-      (
+      let C : List Line = homotopy_lines (pair_of W side) side in (
         suc (length A + c.0),
         (let e = a.next in let g = c.1 in omega (arith, e, g)),
         (section_holds p G W side, fails_front (holds p G W) (A ++ B) C (length A + c.0) law (fails_behind (holds p G W) A B c.0 law a.meet c.2)),
@@ -62,8 +57,7 @@ module _ {p : ℕ} (s : Section p) (from : ℕ) where
       let c = here G W side w in
       let A : List Line = cycle_lines (pair_of W side) side in
       let B : List Line = cocycle_lines (pair_of W side) side in
-      let C : List Line = homotopy_lines (pair_of W side) side in
-      (
+      let C : List Line = homotopy_lines (pair_of W side) side in (
         suc c.0,
         (let g = c.1 in omega (arith, g)),
         (section_holds p G W side, fails_front (holds p G W) (A ++ B) C c.0 law (fails_front (holds p G W) A B c.0 law c.2)),

@@ -29,12 +29,7 @@ fn projection<const P: u16>(
         return Ok(Chain::empty(alloc));
     }
     let kept = &section.degrees[degree];
-    combined(
-        alloc,
-        field,
-        &kept.cycles,
-        &kept.at_cocycles[cell as usize],
-    )
+    combined(alloc, field, &kept.cycles, &kept.at_cocycles[cell as usize])
 }
 
 // Whether the chains contract the pair to its cycles, at a cell.

@@ -2,8 +2,8 @@
 //! its cells.
 #![tactic(auto)]
 
-mod contractions;
 mod cocycles;
+mod contractions;
 mod cycles;
 mod pair;
 mod reading;
@@ -12,5 +12,5 @@ mod tests;
 
 pub use pair::test_section;
 pub use reading::{cell_of, read_chain, read_chains};
-pub use tests::is_sum;
 pub use section::{Degree, Section, section_of};
+pub use tests::is_sum;

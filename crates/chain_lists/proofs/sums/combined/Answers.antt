@@ -1,7 +1,6 @@
-use Rattle.std.proofs.Common.{◌≡◌, ◌∙◌, ◌%◌, ◌<◌, ◌≤◌, ℕ, List, length, arith, ap}
+use Rattle.std.proofs.Common.{◌<◌, length, arith, ap}
 use Rattle.chains.specs.Terms.{coefficient}
-use Rattle.chains.specs.ChainComplex.{boundary}
-use Rattle.chains.proofs.Boundary.{products_none, products_next, products_skip, products_end}
+use Rattle.chains.proofs.Boundary.{products_none, products_next, products_skip}
 use Rattle.chain_lists.proofs.sums.combined.Goals as goal
 use Rattle.chain_lists.proofs.sums.combined.Goals.{then-place-chains+in_ok-push_scaled, else-place-chains}
 

@@ -1,4 +1,4 @@
-use Rattle.std.proofs.Common.{arith, length, ◌≤◌}
+use Rattle.std.proofs.Common.{arith}
 use Rattle.std.proofs.lemmas.Result.{IfOk-weaker}
 use Rattle.chain_lists.specs.Lists.{IsTranspose, AreSums}
 use Rattle.chain_lists.proofs.Gathering.{columns_end}

@@ -1,4 +1,4 @@
-use Rattle.std.proofs.Common.{◌≡◌, ◌+◌, ◌<◌, ◌≤◌, length, arith}
+use Rattle.std.proofs.Common.{◌<◌, length, arith}
 use Rattle.std.proofs.lemmas.Result.{err_from_is_err_and}
 use Rattle.witness_sections.specs.Readings.{cocycles_in}
 use Rattle.witness_sections.proofs.Loops.{degrees_more, degrees_fault, degrees_passed, count_more, count_room, count_below}

@@ -1,4 +1,4 @@
-use Rattle.std.proofs.Common.{◌≡◌, ◌∙◌, ◌+◌, ◌<◌, ◌^◌, ℕ, length, sym, ap, subst, arith}
+use Rattle.std.proofs.Common.{◌≡◌, ◌+◌, ◌<◌, ◌^◌, ℕ, length, sym, subst, arith}
 use Rattle.witness_sections.specs.declared.section.Degree.{Degree}
 use Rattle.witness_sections.specs.Readings.{cocycles_in, ArePassedOf, IsWholeDegree}
 use Rattle.witness_sections.proofs.Loops.{cocycles_more, cocycles_fault, cocycles_passed, count_here}

@@ -1,4 +1,4 @@
-use Rattle.std.proofs.Common.{◌≡◌, ◌∙◌, ◌%◌, ◌<◌, ◌≤◌, ℕ, List, [], length, get_or, sym, ap, subst, arith}
+use Rattle.std.proofs.Common.{◌≡◌, ◌∙◌, ◌%◌, ◌<◌, ℕ, [], length, get_or, sym, ap, subst, arith}
 use Rattle.std.proofs.lemmas.Result.{IfOk-weaker}
 use Rattle.std.proofs.lemmas.List.{get_or_default}
 use native.Mathlib.Nat.{zero-mod}
@@ -27,7 +27,7 @@ returns g c =
     (λ b. (h : ℕ) → coefficient b h ≡ boundary c.deref.result.now (coefficient c.index.result.now) h % g.row.P)
     (λ b. (h : ℕ) → coefficient b h ≡ projection_by ds (get_or c.args.section.now.complex.degrees c.args.cell 0) c.args.cell h % g.row.P)
     (λ b s h. s h ∙ ap (λ v. v % g.row.P) (ap (λ bs. boundary bs (coefficient c.index.result.now) h) c.deref.ensures.value
-        ∙ ap (λ us. boundary d.cycles.items (coefficient us) h) (c.index.ensures ∙ get_or_default d.at_cocycles.items c.args.cell c.index.result.now [] inside)
-        ∙ sym (projection_here ds k c.args.cell h d l c.index-kept.ensures)
-        ∙ ap (λ n. projection_by ds n c.args.cell h) (c.from-degree.ensures ∙ c.degree.ensures.value)))
+    ∙ ap (λ us. boundary d.cycles.items (coefficient us) h) (c.index.ensures ∙ get_or_default d.at_cocycles.items c.args.cell c.index.result.now [] inside)
+    ∙ sym (projection_here ds k c.args.cell h d l c.index-kept.ensures)
+    ∙ ap (λ n. projection_by ds n c.args.cell h) (c.from-degree.ensures ∙ c.degree.ensures.value)))
     c.combined.ensures.sum

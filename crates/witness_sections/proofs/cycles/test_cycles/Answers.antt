@@ -1,7 +1,7 @@
-use Rattle.std.proofs.Common.{◌≡◌, ◌+◌, ◌<◌, ◌≤◌, length, arith}
+use Rattle.std.proofs.Common.{◌<◌, length, arith}
 use Rattle.std.proofs.lemmas.Result.{err_from_is_err_and}
 use Rattle.witness_sections.specs.Readings.{cycles_in}
-use Rattle.witness_sections.proofs.Loops.{degrees_more, degrees_fault, degrees_passed, count_more, count_room, count_below}
+use Rattle.witness_sections.proofs.Loops.{degrees_more, degrees_fault, degrees_passed, count_more, count_room}
 use Rattle.witness_sections.proofs.cycles.test_cycles.Goals as goal
 
 pub test_cycles_in-requires : goal.test_cycles_in-requires

@@ -1,4 +1,4 @@
-use Rattle.std.proofs.Common.{◌≡◌, ◌∙◌, ◌+◌, ◌<◌, ℕ, length, sym, ap, subst, arith}
+use Rattle.std.proofs.Common.{◌≡◌, ◌∙◌, ◌+◌, ℕ, length, sym, subst, arith}
 use Rattle.std.proofs.lemmas.Bool.{false≢true}
 use Rattle.witness_sections.specs.Readings.{cycles_in, ArePassedOf}
 use Rattle.witness_sections.proofs.Loops.{cycles_more, cycles_fault, cycles_passed, count_here}

@@ -1,5 +1,5 @@
-use Rattle.std.proofs.Common.{◌≡◌, ◌<◌, ◌∙◌, ap, sym, length, get_or, map, arith, List, ℕ}
-use Rattle.std.proofs.lemmas.List.{length-map, get_or-map, get_or_default}
+use Rattle.std.proofs.Common.{◌≡◌, ◌<◌, ◌∙◌, ap, sym, length, get_or, arith}
+use Rattle.std.proofs.lemmas.List.{length-map, get_or-map}
 use Rattle.witness_types.specs.Parts.{degrees_of}
 use Rattle.witness_sections.proofs.Termwise.{named_at, beside_here, beside_other}
 use Rattle.witness_sections.proofs.reading.cocycles_beside.Goals as goal

@@ -1,7 +1,6 @@
 use Rattle.std.proofs.Common.{take}
 use Rattle.witness_types.specs.Parts.{beside, degrees_of}
 use Rattle.witness_sections.specs.Readings.{AreRead}
-use Rattle.witness_sections.proofs.Termwise.{none_read}
 use Rattle.witness_sections.proofs.reading.cocycles_beside.Given as goal
 
 abbrev pub invariant-loop-place : goal.invariant-loop-place

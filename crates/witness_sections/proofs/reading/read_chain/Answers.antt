@@ -1,4 +1,4 @@
-use Rattle.std.proofs.Common.{◌≡◌, ◌∙◌, ◌+◌, ◌%◌, ◌<◌, sym, ap, subst, arith, ℕ, List, [], take}
+use Rattle.std.proofs.Common.{◌∙◌, ◌+◌, ◌%◌, sym, ap, subst, arith, ℕ, List, [], take}
 use Rattle.std.specs.List.{Contains}
 use Rattle.std.proofs.lemmas.Bool.{false≢true}
 use Rattle.std.proofs.lemmas.Option.{get_or_from_slice_get, slice_get_within}

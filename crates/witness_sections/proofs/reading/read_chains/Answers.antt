@@ -1,4 +1,4 @@
-use Rattle.std.proofs.Common.{◌<◌, length, arith}
+use Rattle.std.proofs.Common.{length, arith}
 use Rattle.witness_sections.proofs.Termwise.{named_at, all_more}
 use Rattle.witness_sections.proofs.reading.read_chains.Goals as goal
 

@@ -1,6 +1,5 @@
 use Rattle.std.proofs.Common.{take}
 use Rattle.witness_sections.specs.Readings.{AreRead}
-use Rattle.witness_sections.proofs.Termwise.{none_read}
 use Rattle.witness_sections.proofs.reading.read_chains.Given as goal
 
 abbrev pub invariant-loop-place : goal.invariant-loop-place

@@ -1,4 +1,4 @@
-use Rattle.std.proofs.Common.{◌≡◌, ◌<◌, ◌≤◌, ◌∙◌, ap, sym, subst, length, map, arith, List, ℕ}
+use Rattle.std.proofs.Common.{◌∙◌, ap, sym, subst, length, map, arith}
 use Rattle.std.proofs.lemmas.List.{length-map}
 use Rattle.witness_sections.proofs.Parting.{transposed_as}
 use Rattle.witness_types.specs.Parts.{beside, degrees_of}

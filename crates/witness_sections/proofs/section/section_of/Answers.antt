@@ -1,4 +1,4 @@
-use Rattle.std.proofs.Common.{◌≡◌, ◌∙◌, ◌+◌, ℕ, List, length, sym, ap, subst}
+use Rattle.std.proofs.Common.{◌≡◌, ◌∙◌, length, sym, subst}
 use Rattle.field_mod.proofs.Table.{two_le}
 use Rattle.witness_sections.specs.Readings.{AreRead}
 use Rattle.witness_sections.proofs.Parting.{transposed_as, complex_as, section_from}
