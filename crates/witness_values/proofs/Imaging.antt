@@ -118,7 +118,6 @@ module _ (p : ℕ) (K L : ChainComplex) (us : List (List (ℕ × ℕ))) (G : Giv
   abbrev fs : List (List (ℕ × ℕ))
   fs = (map_of W).images
 
-
   rl : IsListing (is_cell_of (together T.y T.b)) rs
   rl = cells_listing (together T.y T.b)
 
