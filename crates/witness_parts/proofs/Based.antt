@@ -12,7 +12,7 @@ use Rattle.elem_cubes.specs.Boundary.{boundary_coefficient}
 use Rattle.elem_cubes.specs.Laws.{cell_at}
 use Rattle.elem_cubes.specs.OrderLemmas.{cell_refl, cell_cases}
 use Rattle.elem_cubes.proofs.Modular.{exact}
-use Rattle.chains.specs.Terms.{nth_chain, product}
+use Rattle.chains.specs.Terms.{nth_chain}
 use Rattle.chains.specs.Homology.{IsChain, IsBasis, combination}
 use Rattle.chains.specs.ChainComplex.{ChainComplex, system, incidence, boundary}
 use Rattle.cell_complex.specs.Boundaries.{unit_at}

@@ -1,12 +1,10 @@
 -- Lists of chains degree by degree.
-use Rattle.std.proofs.Common.{◌≡◌, ◌≢◌, ℕ, zero, suc, ◌+◌, ◌<◌, ◌≤◌, refl, sym, ap, ◌∙◌, arith, ⊎_elim, List, [], ◌∷◌, ◌++◌, length, get_or, map, cond, eqb, eq-eqb, ne_eqb, append_assoc, subst}
-use Rattle.std.proofs.lemmas.Bool.{cases_lt, cases_eq}
-use Rattle.std.proofs.lemmas.List.{map-append, append-nil, length-map}
+use Rattle.std.proofs.Common.{◌≡◌, ℕ, zero, suc, ◌+◌, ◌<◌, refl, sym, ap, ◌∙◌, arith, ⊎_elim, List, [], ◌∷◌, ◌++◌, length, map, cond, eqb, eq-eqb, ne_eqb, append_assoc, subst}
+use Rattle.std.proofs.lemmas.Bool.{cases_lt}
+use Rattle.std.proofs.lemmas.List.{map-append, append-nil}
 use Rattle.elem_cubes.specs.Cells.{Factor}
 use Rattle.witness_laws.specs.Lines.{each}
 use Rattle.witness_laws.specs.Parts.{nth}
-use Rattle.witness_types.specs.Parts.{beside, degrees_of}
-use Rattle.witness_writing.proofs.Grouping.{Rises}
 use Rattle.witness_parts.specs.Filed.{IsFiled, AreFiled, AddsCycles, AddsChains, HasCycles, HasChains}
 
 -- ---- one more

@@ -1,14 +1,14 @@
 -- Chains by the numbers of a file, from chains by other numbers.
-use Rattle.std.proofs.Common.{◌≡◌, ℕ, zero, suc, ◌+◌, ◌-◌, ◌*◌, ◌<◌, ◌≤◌, ◌^◌, ◌%◌, refl, sym, ap, ◌∙◌, arith, ⊎_elim, List, [], ◌∷◌, ◌++◌, length, get_or, map, take, Bool, true, false, cond, eqb, eq-eqb, ne_eqb, subst}
+use Rattle.std.proofs.Common.{◌≡◌, ℕ, suc, ◌+◌, ◌-◌, ◌<◌, ◌≤◌, ◌^◌, ◌%◌, refl, sym, ap, ◌∙◌, arith, ⊎_elim, List, [], ◌∷◌, ◌++◌, length, get_or, take, Bool, true, false, cond, eqb, eq-eqb, ne_eqb, subst}
 use Rattle.std.specs.List.{Contains}
 use Rattle.std.specs.List.Sorted.{IsStrictlySortedBy}
 use Rattle.std.specs.Prelude.{nat_lt}
 use Rattle.std.proofs.lemmas.Bool.{cases_lt, cases_eq, le-ltb}
-use Rattle.std.proofs.lemmas.List.{take_more, take_all, map-append, append-nil}
+use Rattle.std.proofs.lemmas.List.{take_more, map-append}
 use Rattle.std.proofs.lemmas.List.Sums.{passes_at_first}
 use native.Mathlib.Nat.{mod-mod}
 use Rattle.field_mod.specs.Modular.{Same, NonZero}
-use Rattle.field_mod.proofs.Modular.{same_refl, same_sym, same_trans}
+use Rattle.field_mod.proofs.Modular.{same_refl, same_trans}
 use Rattle.elem_cubes.specs.Cells.{Factor, same_cell}
 use Rattle.elem_cubes.specs.Order.{cell_cmp}
 use Rattle.elem_cubes.specs.OrderLemmas.{cell_refl, cell_cases}
@@ -25,7 +25,7 @@ use Rattle.cell_complex.proofs.Deciding.{cell_true}
 use Rattle.cell_complex.proofs.Numbering.{number_at as listed_number}
 use Rattle.cell_complex.proofs.Sorting.{number_below, found}
 use Rattle.chain_selector.specs.Renumbered.{IsRenumbered}
-use Rattle.chain_selector.proofs.OtherNumbers.{sorted_listing, by_cell-at, by_cell-past}
+use Rattle.chain_selector.proofs.OtherNumbers.{sorted_listing, by_cell-past}
 use Rattle.witness_laws.specs.Parts.{AreTerms, NameCells, chain_of, nth}
 use Rattle.witness_parts.specs.Filed.{IsFiled, AreFiled, from_one}
 

@@ -1,28 +1,25 @@
 -- What is written for a pair is accepted.
-use Rattle.std.proofs.Common.{◌≡◌, ◌⊎◌, ℕ, zero, suc, ◌+◌, ◌*◌, ◌<◌, ◌≤◌, refl, sym, ap, ◌∙◌, arith, ⊎_elim, List, [], ◌∷◌, ◌++◌, length, map, take, drop, Bool, true, false, ◌&&◌, cond, eqb, eqb-true, ne_eqb, append_assoc, subst, None}
+use Rattle.std.proofs.Common.{◌≡◌, ℕ, ◌≤◌, refl, sym, ap, ◌∙◌, arith, ⊎_elim, List, [], ◌∷◌, ◌++◌, length, take, drop, true, cond, eqb, eqb-true, ne_eqb, append_assoc, subst}
 use Rattle.std.proofs.lemmas.Bool.{true≢false, and_parts, cases_eq}
 use Rattle.std.proofs.lemmas.List.{append-nil}
 use Rattle.std.proofs.lemmas.List.Elements.{All-from_recursion, All-map}
 use Rattle.std.specs.Prelude.{codes, not}
 use Rattle.std.specs.List.{All, AllByRecursion, list_all, flat_map}
 use Rattle.field_mod.specs.Moduli.{IsModulus}
-use Rattle.field_mod.specs.Sums.{total}
 use Rattle.field_mod.proofs.Sums.{total-zero}
-use Rattle.elem_cubes.specs.Cells.{Factor, dimension_of, is_file_factor}
+use Rattle.elem_cubes.specs.Cells.{Factor, is_file_factor}
 use Rattle.elem_cubes.proofs.Bits.{few_intervals}
 use Rattle.elem_cubes.proofs.Members.{In-from}
-use Rattle.chains.specs.ChainComplex.{ChainComplex}
 use Rattle.cube_sets.specs.Sets.{Members, IsCubeSet, is_member}
 use Rattle.cube_sets.specs.Closures.{cells_of, is_cell_of}
 use Rattle.cube_sets.proofs.Covering.{cells_alike}
-use Rattle.cell_complex.specs.RelativeComplex.{is_relative}
 use Rattle.cell_complex.specs.Numbering.{IsRelativeComplex}
 use Rattle.cell_complex.specs.Sorted.{IsSortedCells}
 use Rattle.acyclic_values.proofs.Cells.{all_In, cells_listing}
 use Rattle.homology_basis.specs.Bases.{BasisOfLog, IsBasisWithContraction}
-use Rattle.witness_laws.specs.Lines.{Line, numeral, lines_of, IsOneLine}
+use Rattle.witness_laws.specs.Lines.{numeral, lines_of, IsOneLine}
 use Rattle.witness_laws.specs.Formats.{texts_of}
-use Rattle.witness_laws.specs.Inputs.{all_cells, relative_cells}
+use Rattle.witness_laws.specs.Inputs.{all_cells}
 use Rattle.witness_laws.specs.Sections.{IsSection}
 use Rattle.witness_laws.specs.Tables.{PairTables, tables_format, text_of_line, lines_of_tables}
 use Rattle.witness_laws.proofs.Texts.{texts_have_their_lines, feed_append, feed_numeral}

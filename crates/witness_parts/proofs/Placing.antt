@@ -1,19 +1,18 @@
 -- Lists of chains degree by degree are the tables of a section.
-use Rattle.std.proofs.Common.{◌≡◌, ◌≢◌, ℕ, zero, suc, ◌+◌, ◌<◌, ◌≤◌, refl, sym, ap, ◌∙◌, arith, ⊎_elim, List, [], ◌∷◌, ◌++◌, length, get_or, map, Bool, true, false, cond, eqb, eq-eqb, ne_eqb, subst}
+use Rattle.std.proofs.Common.{◌≡◌, ◌≢◌, ℕ, zero, suc, ◌+◌, ◌<◌, ◌≤◌, refl, sym, ap, ◌∙◌, arith, List, [], ◌∷◌, ◌++◌, length, get_or, map, Bool, true, false, cond, eqb, eq-eqb, ne_eqb, subst}
 use Rattle.std.proofs.lemmas.List.{append-nil, length-map}
 use Rattle.elem_cubes.specs.Cells.{Factor}
 use Rattle.elem_cubes.specs.Laws.{cell_at}
-use Rattle.homology_basis.specs.Bases.{in_degree}
 use Rattle.witness_laws.specs.Lines.{each}
 use Rattle.witness_laws.specs.Inputs.{all_cells, relative_cells}
 use Rattle.witness_laws.specs.Sections.{Section}
 use Rattle.witness_laws.proofs.Runs.{map_each, length_singles}
 use Rattle.witness_types.specs.declared.part.PairPart.{PairPart}
-use Rattle.witness_types.specs.Parts.{beside, by_degree, degrees_of, pair_tables, IsInOrder}
+use Rattle.witness_types.specs.Parts.{beside, degrees_of}
 use Rattle.witness_writing.proofs.Grouping.{Rises}
 use Rattle.witness_writing.proofs.Pairs.{get_singles}
 use Rattle.witness_parts.specs.Filed.{AreFiled, HasCycles, HasChains}
-use Rattle.witness_parts.specs.Tables.{AreTablesOf, IsPartOf}
+use Rattle.witness_parts.specs.Tables.{IsPartOf}
 use Rattle.witness_parts.proofs.Degrees.{each_below}
 
 step : {A : Type 0} (b : Bool) (x : A) (all front back : List A) → all ≡ front ++ back → cond b (x ∷ all) all ≡ cond b (x ∷ front) front ++ back

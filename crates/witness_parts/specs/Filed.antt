@@ -1,5 +1,5 @@
 -- Chains of cells by the numbers of a witness file, which count from 1.
-use Rattle.std.specs.Prelude.{◌≡◌, ℕ, ◌+◌, ◌<◌, ◌≤◌, List, ◌++◌, length, map}
+use Rattle.std.specs.Prelude.{◌≡◌, ℕ, ◌+◌, ◌<◌, List, ◌++◌, length, map}
 use Rattle.field_mod.specs.Modular.{Same, NonZero}
 use Rattle.elem_cubes.specs.Cells.{Factor}
 use Rattle.witness_laws.specs.Lines.{each}

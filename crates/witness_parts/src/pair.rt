@@ -202,8 +202,8 @@ fn rows_of<const P: u16>(
     Ok(rows)
 }
 
-/// The part of the pair of x and a in a witness, by a basis of its homology over its relative cells:
-/// the cycles, the cocycles and the contraction of the basis, up to a last degree.
+/// The part of the pair of x and a in a witness, by a basis of its homology over its relative
+/// cells: the cycles, the cocycles and the contraction of the basis, up to a last degree.
 pub fn pair_part<const P: u16>(
     alloc: Global,
     field: Field<P>,

@@ -53,7 +53,13 @@ pub fn pair_witness<const P: u16>(
     // An input is taken apart, since it is not let go.
     match input {
         Input::Pair { x: _, a: _ } => {}
-        Input::Map { map: _, x: _, a: _, y: _, b: _ } => {}
+        Input::Map {
+            map: _,
+            x: _,
+            a: _,
+            y: _,
+            b: _,
+        } => {}
     }
     Ok(text?)
 }

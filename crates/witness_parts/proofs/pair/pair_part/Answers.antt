@@ -1,4 +1,4 @@
-use Rattle.std.proofs.Common.{◌≡◌, ℕ, List, ap, ◌∙◌, ◌+◌, arith, length, subst}
+use Rattle.std.proofs.Common.{◌≡◌, List, ap, ◌∙◌, ◌+◌, arith, length, subst}
 use Rattle.elem_cubes.specs.Cells.{Factor}
 use Rattle.cube_sets.specs.Closures.{cells_of}
 use Rattle.cell_complex.specs.RelativeComplex.{is_relative}
@@ -15,8 +15,7 @@ cycles_of-requires g c =
     let x = c.args.x.now.cells in
     let a = c.args.a.now.cells in
     let e : c.in_ok-all.all ≡ all_cells x a = c.in_ok-all.ensures ∙ ap cells_of c.in_ok-set.ensures in
-    let f = kept_are x a c.args.cells.now c.requires.relative.listing c.len-count.ensures.sorted in
-    (
+    let f = kept_are x a c.args.cells.now c.requires.relative.listing c.len-count.ensures.sorted in (
       (omega arith),
       (
         (omega arith),
@@ -29,8 +28,7 @@ cocycles_of-requires g c =
     let x = c.args.x.now.cells in
     let a = c.args.a.now.cells in
     let e : c.in_ok-all.all ≡ all_cells x a = c.in_ok-all.ensures ∙ ap cells_of c.in_ok-set.ensures in
-    let f = kept_are x a c.args.cells.now c.requires.relative.listing c.len-count.ensures.sorted in
-    (
+    let f = kept_are x a c.args.cells.now c.requires.relative.listing c.len-count.ensures.sorted in (
       (omega arith),
       (
         (omega arith),
@@ -43,8 +41,7 @@ rows_of-requires g c =
     let x = c.args.x.now.cells in
     let a = c.args.a.now.cells in
     let e : c.in_ok-all.all ≡ all_cells x a = c.in_ok-all.ensures ∙ ap cells_of c.in_ok-set.ensures in
-    let f = kept_are x a c.args.cells.now c.requires.relative.listing c.len-count.ensures.sorted in
-    (
+    let f = kept_are x a c.args.cells.now c.requires.relative.listing c.len-count.ensures.sorted in (
       (omega arith),
       (
         (omega arith),

@@ -15,8 +15,7 @@ write_witness-text-requires g c =
     let part = c.in_ok-part.part in
     let made = subst (λ (t : ℕ). IsPartOf t x.cells a.cells (section_by p c.args.cells.now b) part) c.known.ensures c.in_ok-part.ensures in
     let one : 1 ≤ p = omega (arith, two_le p c.args.field.listed) in
-    let acc = accepted p x a c.args.cells.now b one c.len-members.ensures.set c.len-count.ensures.sorted c.requires.relative c.dimension-dimension.ensures.basis (pair_tables (top_of x a) part) made.tables in
-    (
+    let acc = accepted p x a c.args.cells.now b one c.len-members.ensures.set c.len-count.ensures.sorted c.requires.relative c.dimension-dimension.ensures.basis (pair_tables (top_of x a) part) made.tables in (
       (omega arith),
       (
         (omega arith),
