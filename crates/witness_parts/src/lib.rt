@@ -1,0 +1,9 @@
+//! The parts of witness files, made of bases.
+#![tactic(auto)]
+
+mod filed;
+mod pair;
+mod witness;
+
+pub use pair::pair_part;
+pub use witness::pair_witness;
