@@ -2,8 +2,10 @@
 //! its vertex.
 #![tactic(auto)]
 
+mod cells;
 mod fillings;
 mod images;
 
+pub use cells::{MapSides, test_cells};
 pub use fillings::test_fillings;
 pub use images::image_fault;
