@@ -17,11 +17,11 @@ pub record RemovalsAreSwaps : Type 0 where
       → state_of w t.0 ≡ 1 → state_of w t.1 ≡ 1
       → (c : List Factor)
       → state_of (words_without t w) c ≡ (if same_cell c t.0 then 2 + differing_axis t.0 t.1 else
-          (if same_cell c t.1 then 2 else state_of w c))
+      (if same_cell c t.1 then 2 else state_of w c))
   pub words : (w : PackedWords) (t : List Factor × List Factor)
       → AreWords w → IsOnePointPair t.0 t.1 → state_of w t.0 ≡ 1 → state_of w t.1 ≡ 1
       → IsWordOf (key_at w (place_of w.keys (key_of t.0)))
-          (word_without t (word_at w (place_of w.keys (key_of t.0))))
+      (word_without t (word_at w (place_of w.keys (key_of t.0))))
 
 -- words are reached from themselves, and one more removal gives words that are reached
 pub record RemovalsReach : Type 0 where
@@ -75,12 +75,12 @@ pub record OrderIsByRank : Type 0 where
       → AreWords first → IsReachedBy first taken last → AreDoneTo first.keys r taken done
       → Contains taken t → rank_of first.keys t.0 ≡ r → ¬ Contains done t
       → (u : List Factor × List Factor) × Contains taken u × (rank_of first.keys u.0 ≡ r)
-          × (¬ Contains done u) × IsFreePair (without_pairs done (is_alive first)) u.0 u.1
+      × (¬ Contains done u) × IsFreePair (without_pairs done (is_alive first)) u.0 u.1
   pub free_in_rank : (first last : PackedWords) (taken done : List (List Factor × List Factor))
       (r : ℕ) (t : List Factor × List Factor)
       → AreWords first → IsReachedBy first taken last → AreDoneTo first.keys r taken done
       → Contains taken t → rank_of first.keys t.0 ≡ r → ¬ Contains done t
       → ((c : List Factor)
-          → rank_of first.keys c ≡ r → without_pairs done (is_alive first) c ≡ true
-          → IsFacet c t.0 → c ≡ t.1)
+      → rank_of first.keys c ≡ r → without_pairs done (is_alive first) c ≡ true
+      → IsFacet c t.0 → c ≡ t.1)
       → IsFreePair (without_pairs done (is_alive first)) t.0 t.1

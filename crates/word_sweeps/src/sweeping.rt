@@ -84,9 +84,7 @@ fn free_coface_in(words: &Words, face: &Cell) -> Option<Cell>
 fn only_coface(words: &Words, face: &Cell) -> Option<Cell>
     requires { state_of words.now face.now ≡ 1 }
     ensures some { IfSome result (λ b. IsFreePair (is_alive words.now) face.now b) }
-    ensures none {
-        IfNone result ((b : List Factor) → ¬ IsFreePair (is_alive words.now) face.now b)
-    }
+    ensures none { IfNone result ((b : List Factor) → ¬ IsFreePair (is_alive words.now) face.now b) }
 {
     let _ = words.len();
     let mut found = None;
@@ -171,9 +169,7 @@ fn first_taken(words: &Words, last: &Words, corner: Corner, upper: u8) -> Option
 // Whether the words record that the pair of a facet and a cell was taken.
 fn is_listed(last: &Words, face: &Cell, coface: &Cell) -> bool
     requires { length face.now ≡ length coface.now }
-    ensures {
-        IsTrue result ↔ (state_of last.now face.now ≡ 2 + differing_axis face.now coface.now)
-    }
+    ensures { IsTrue result ↔ (state_of last.now face.now ≡ 2 + differing_axis face.now coface.now) }
 {
     u32::from(last.state(face)) == 2 + u32::from(axis_between(face, coface))
 }
