@@ -1,0 +1,3 @@
+pub mod Nibbles
+pub mod Placed
+pub mod Keys

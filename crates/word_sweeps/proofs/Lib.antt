@@ -1,0 +1,9 @@
+pub mod Axes
+pub mod Removals
+pub mod Reached
+pub mod Taken
+pub mod Turns
+pub mod Ranks
+pub mod Sole
+pub mod Freed
+pub mod Listed
