@@ -17,9 +17,11 @@ use Rattle.witness_values.specs.Images.{AreImagesOf}
 use Rattle.witness_values.specs.Fillings.{fillings_in}
 use Rattle.witness_values.specs.declared.cells.MapSides.{MapSides}
 
--- the sides are those of the map of a witness whose part this is: its sets have no fault, and its lines name cells of the kinds that
+-- the sides are those of the map of a witness whose part this is: its sets have no fault, and its
+-- lines name cells of the kinds that
 -- they may name
-pub record AreSidesOf {p : ℕ} (s : MapSides p) (m : List Naming) (set : List (List Factor)) (part : MapPart p) (G : Given) (W : Tables) : Type 0 where
+pub record AreSidesOf {p : ℕ} (s : MapSides p) (m : List Naming) (set : List (List Factor))
+    (part : MapPart p) (G : Given) (W : Tables) : Type 0 where
   pub fault : IsWithoutFault G (target_of G)
   pub naming : m ≡ (target_of G).map
   pub cubes : set ≡ together G.x G.a
@@ -32,12 +34,15 @@ pub record AreSidesOf {p : ℕ} (s : MapSides p) (m : List Naming) (set : List (
   pub chains : (map_of W).images ≡ part.images.items
   pub vertex_count : length part.vertices.items ≡ length s.domain
   pub filling_count : length part.contractions.items ≡ length s.domain
-  pub counts : (i : ℕ) → i < length s.domain → length (slice_index_or (map_of W).fillings i []) ≡ length (value_at G i)
-  pub filling_cells : (i : ℕ) → i < length s.domain → AreNamed (length s.range) (slice_index_or (map_of W).fillings i [])
+  pub counts : (i : ℕ) → i < length s.domain
+      → length (slice_index_or (map_of W).fillings i []) ≡ length (value_at G i)
+  pub filling_cells : (i : ℕ) → i < length s.domain
+      → AreNamed (length s.range) (slice_index_or (map_of W).fillings i [])
   pub named : (i : ℕ) → i < length s.domain → NamesVertex G (map_of W).vertices i
 
 -- there is such a witness
-pub record HasWitness {p : ℕ} (s : MapSides p) (m : List Naming) (set : List (List Factor)) (part : MapPart p) : Type 0 where
+pub record HasWitness {p : ℕ} (s : MapSides p) (m : List Naming) (set : List (List Factor))
+    (part : MapPart p) : Type 0 where
   pub given : Given
   pub tables : Tables
   pub are : AreSidesOf s m set part given tables
@@ -47,11 +52,17 @@ abbrev pub cell_lines : ℕ → MapTables → List Line
 cell_lines i M = vertex i ∷ fillings_in i M ++ image i ∷ []
 
 -- what is told of lines, whatever witness has the sides
-abbrev pub CellsPassed : {p : ℕ} → MapSides p → List Naming → List (List Factor) → MapPart p → (MapTables → List Line) → ℕ → ℕ → Type 0
-CellsPassed {p} s m set part lines from behind = (G : Given) (W : Tables) → AreSidesOf s m set part G W → ArePassed (holds p G W) (lines (map_of W)) from behind
+abbrev pub CellsPassed : {p : ℕ} → MapSides p → List Naming → List (List Factor) → MapPart p
+    → (MapTables → List Line) → ℕ → ℕ → Type 0
+CellsPassed {p} s m set part lines from behind =
+    (G : Given) (W : Tables) → AreSidesOf s m set part G W
+    → ArePassed (holds p G W) (lines (map_of W)) from behind
 
-abbrev pub IsCellFaultOf : {p : ℕ} → MapSides p → List Naming → List (List Factor) → MapPart p → (MapTables → List Line) → ℕ → WitnessFault → Type 0
-IsCellFaultOf {p} s m set part lines from fault = (G : Given) (W : Tables) → AreSidesOf s m set part G W → IsFaultAmong (holds p G W) (lines (map_of W)) from fault
+abbrev pub IsCellFaultOf : {p : ℕ} → MapSides p → List Naming → List (List Factor) → MapPart p
+    → (MapTables → List Line) → ℕ → WitnessFault → Type 0
+IsCellFaultOf {p} s m set part lines from fault =
+    (G : Given) (W : Tables) → AreSidesOf s m set part G W
+    → IsFaultAmong (holds p G W) (lines (map_of W)) from fault
 
 -- the lines of all cells
 abbrev pub all_cell_lines : MapTables → List Line
