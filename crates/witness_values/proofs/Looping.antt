@@ -1,5 +1,5 @@
 -- The lines of all cells, one cell after the other.
-use Rattle.std.proofs.Common.{◌≡◌, ℕ, zero, suc, ◌+◌, ◌<◌, ◌≤◌, refl, sym, ap, ◌∙◌, subst, arith, List, length}
+use Rattle.std.proofs.Common.{◌≡◌, ℕ, zero, suc, ◌+◌, ◌<◌, ◌≤◌, sym, ap, ◌∙◌, subst, arith, List, length}
 use Rattle.field_mod.specs.Sums.{total}
 use Rattle.elem_cubes.specs.Cells.{Factor}
 use Rattle.cube_maps.specs.CubeMaps.{Naming}
@@ -9,7 +9,7 @@ use Rattle.witness_laws.specs.Lines.{each}
 use Rattle.witness_laws.specs.Inputs.{Given}
 use Rattle.witness_laws.specs.Tables.{Tables, map_of, holds}
 use Rattle.witness_types.specs.declared.part.MapPart.{MapPart}
-use Rattle.witness_sections.specs.Outcomes.{ArePassed, IsFaultAmong}
+use Rattle.witness_sections.specs.Outcomes.{ArePassed}
 use Rattle.witness_sections.proofs.Lining.{meet_more, fails_in_each, length_more}
 use Rattle.witness_values.specs.declared.cells.MapSides.{MapSides}
 use Rattle.witness_values.specs.Cells.{AreSidesOf, CellsPassed, IsCellFaultOf, cell_lines, all_cell_lines, chains_at, cell_line_count}
@@ -55,8 +55,7 @@ module _ {p : ℕ} (s : MapSides p) (m : List Naming) (set : List (List Factor))
   pub first_fault : (n from next : ℕ) (fault : WitnessFault) → n < length s.domain → FirstPassed n from next → IsCellFaultOf s m set part (cell_lines n) next fault → IsCellFaultOf s m set part all_cell_lines from fault
   first_fault n from next (At line law) l so_far here G W w =
       let a = so_far G W w in
-      let b = here G W w in
-      (
+      let b = here G W w in (
         length (each n (λ i. cell_lines i (map_of W))) + b.0,
         (let f = a.next in let g = b.1 in omega (arith, f, g)),
         fails_in_each (holds p G W) n (length (map_of W).images) b.0 law (λ i. cell_lines i (map_of W)) (let e = size G W w in omega (arith, e, l)) a.meet b.2,

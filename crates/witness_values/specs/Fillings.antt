@@ -1,8 +1,7 @@
 -- The chains of a value, read over the places of its cells.
 use Rattle.std.specs.Prelude.{◌≡◌, ℕ, ◌+◌, ◌<◌, List, [], ◌∷◌, length, slice_index, slice_index_or, if◌then◌else◌, ◌==◌}
 use Rattle.field_mod.specs.Modular.{Same}
-use Rattle.elem_cubes.specs.Cells.{Factor}
-use Rattle.chains.specs.Terms.{coefficient, nth_chain}
+use Rattle.chains.specs.Terms.{nth_chain}
 use Rattle.chains.specs.ChainComplex.{ChainComplex, boundary, incidence}
 use Rattle.cell_complex.specs.Numbering.{IsComplexOf}
 use Rattle.algebraic_reduction.specs.Reduction.{single}

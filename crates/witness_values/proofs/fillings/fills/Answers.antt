@@ -1,4 +1,4 @@
-use Rattle.std.proofs.Common.{◌≡◌, ◌↔◌, ◌∙◌, ◌+◌, ◌<◌, ℕ, [], length, get_or, sym, ap, arith}
+use Rattle.std.proofs.Common.{◌↔◌, ◌∙◌, ◌+◌, ◌<◌, ℕ, [], length, ap, arith}
 use Rattle.std.proofs.lemmas.Result.{IfOk-weaker}
 use Rattle.std.proofs.lemmas.List.{get_or_default}
 use Rattle.std.specs.Bool.{IsTrue}
@@ -21,12 +21,12 @@ returns g c =
     let bs = K.boundaries in
     let inside : i < length hs = omega (arith, c.requires.fillings, c.requires.place) in
     let second = λ (h : ℕ). same_trans (reduced p (coefficient c.in_ok-filled.filled h) (boundary bs (coefficient c.index-fillings-place.result) h) (c.in_ok-filled.ensures h))
-        (exact p (ap (λ us. boundary bs (coefficient us) h) (c.index-fillings-place.is ∙ get_or_default hs i c.index-fillings-place.result [] inside))) in
+    (exact p (ap (λ us. boundary bs (coefficient us) h) (c.index-fillings-place.is ∙ get_or_default hs i c.index-fillings-place.result [] inside))) in
     let third = λ (h : ℕ). same_trans (reduced p (coefficient c.in_ok-around.around h) (boundary hs (coefficient c.boundary.result.now) h) (c.in_ok-around.ensures.sum h))
-        (exact p (ap (λ us. boundary hs (coefficient us) h) c.boundary.ensures.value)) in
+    (exact p (ap (λ us. boundary hs (coefficient us) h) c.boundary.ensures.value)) in
     let both = same_iff p (λ h. coefficient c.in_ok-base.base h + (coefficient c.in_ok-filled.filled h + coefficient c.in_ok-around.around h))
-        (λ h. base K.degrees c.args.vertex i h + (boundary bs (nth_chain hs i) h + boundary hs (incidence bs i) h))
-        (single i) (λ h. same-add (c.in_ok-base.ensures h) (same-add (second h) (third h))) in
+    (λ h. base K.degrees c.args.vertex i h + (boundary bs (nth_chain hs i) h + boundary hs (incidence bs i) h))
+    (single i) (λ h. same-add (c.in_ok-base.ensures h) (same-add (second h) (third h))) in
     IfOk-weaker c.is_sum.result
     (λ b. IsTrue b ↔ ((h : ℕ) → Same p (coefficient c.in_ok-base.base h + (coefficient c.in_ok-filled.filled h + coefficient c.in_ok-around.around h)) (single i h)))
     (λ b. IsTrue b ↔ FillsBy p K hs c.args.vertex i)

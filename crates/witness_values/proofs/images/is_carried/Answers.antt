@@ -1,4 +1,4 @@
-use Rattle.std.proofs.Common.{◌≡◌, ◌∙◌, ◌-◌, ◌<◌, ℕ, List, length, get_or, sym, ap, subst, arith}
+use Rattle.std.proofs.Common.{◌∙◌, ◌-◌, ◌<◌, ℕ, List, length, sym, ap, subst, arith}
 use Rattle.std.specs.List.{Contains}
 use Rattle.std.proofs.lemmas.Bool.{false≢true}
 use Rattle.elem_cubes.specs.Cells.{Factor}
@@ -10,9 +10,9 @@ pub returns-then-not-there : goal.returns-then-not-there
 returns-then-not-there g c = (
   (λ f. absurd (false≢true f)),
   (λ w.
-  let l : c.loop-place.place < length c.args.chain.now = omega (arith, c.loop-place-test.true, c.len-place-end.ensures.count) in
-  let e = c.cell_of.ensures ∙ ap (λ n. cell_at c.args.cells.now (n - 1)) (ap (λ (t : ℕ × ℕ). t.0) c.term-number.ensures.value) in
-  absurd (false≢true (sym c.if-not-there.true ∙ c.has-there.ensures.1 (subst (λ (q : List Factor). Contains c.args.value.now q) (sym e) (w c.loop-place.place l))))),
+      let l : c.loop-place.place < length c.args.chain.now = omega (arith, c.loop-place-test.true, c.len-place-end.ensures.count) in
+      let e = c.cell_of.ensures ∙ ap (λ n. cell_at c.args.cells.now (n - 1)) (ap (λ (t : ℕ × ℕ). t.0) c.term-number.ensures.value) in
+      absurd (false≢true (sym c.if-not-there.true ∙ c.has-there.ensures.1 (subst (λ (q : List Factor). Contains c.args.value.now q) (sym e) (w c.loop-place.place l))))),
 )
 
 pub loop-place-preserved : goal.loop-place-preserved
