@@ -11,8 +11,8 @@ AddsMultiple p scale ts old new =
 -- to the g-th list came, beside the number of a column, the coefficient of g in the chain ts
 abbrev pub AddsColumn : ℕ → List (ℕ × ℕ) → List (List (ℕ × ℕ)) → List (List (ℕ × ℕ)) → Type 0
 AddsColumn column ts old new =
-    (g h : ℕ) → g < length old → nth_chain new g h ≡ nth_chain old g h +
-    (if column == h then coefficient ts g else 0)
+    (g h : ℕ) → g < length old → nth_chain new g h ≡ nth_chain old g h
+    + (if column == h then coefficient ts g else 0)
 
 -- the chains are the sums of the terms of the lists
 pub record AreSums (p : ℕ) (lists rows : List (List (ℕ × ℕ))) : Type 0 where

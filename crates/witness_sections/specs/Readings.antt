@@ -52,8 +52,8 @@ pub record IsSectionOf {p : ℕ} (x a : List (List Factor)) (S : PairTables)
   pub prime : 2 ≤ p
   pub complex : IsRelativeComplex p x a (relative_cells x a) s.complex
   pub co_count : length s.coboundaries.items ≡ length (relative_cells x a)
-  pub coboundaries : IsTranspose p (length (relative_cells x a)) s.complex.boundaries
-      s.coboundaries.items
+  pub coboundaries : IsTranspose p
+      (length (relative_cells x a)) s.complex.boundaries s.coboundaries.items
   pub count : length s.degrees.items ≡ length S.cycles
   pub degrees : (k : ℕ) (d : Degree p) → k < length S.cycles
       → IsDegreeOf (all_cells x a) (relative_cells x a) (in_degree S.cycles k)
@@ -123,15 +123,16 @@ pub record IsWhole {p : ℕ} (s : Section p) : Type 0 where
 -- each term of the chain names one of so many cells, which are counted from 1
 abbrev pub IsNamed : ℕ → List (ℕ × ℕ) → Type 0
 IsNamed n ts =
-    (i : ℕ) → i < length ts → (0 < (slice_index_or ts i (0, 0)).0) ×
-    ((slice_index_or ts i (0, 0)).0 ≤ n)
+    (i : ℕ) → i < length ts → (0 < (slice_index_or ts i (0, 0)).0)
+    × ((slice_index_or ts i (0, 0)).0 ≤ n)
 
 -- so does each chain of a list
 abbrev pub AreNamed : ℕ → List (List (ℕ × ℕ)) → Type 0
 AreNamed n cs = (i : ℕ) → i < length cs → IsNamed n (slice_index_or cs i [])
 
 -- what is told of a cocycle: it has the value 1 on its cycle and 0 on the others, and it is 0 on
--- boundaries; or the first of both that fails
+-- boundaries; or the first of both
+-- that fails
 abbrev pub IsDualBy : ℕ → List (List (ℕ × ℕ)) → List (ℕ × ℕ) → ℕ → Type 0
 IsDualBy p at_cycles c i = (g : ℕ) → Same p (boundary at_cycles (coefficient c) g) (single i g)
 
@@ -162,7 +163,8 @@ ContractsBy {p} s i = (g : ℕ)
     (single i g)
 
 -- the part of a pair as it is read: all its chains name cells of the file; it has a cocycle for
--- each cycle, and a chain for each of so many cells
+-- each cycle, and a chain for each of so
+-- many cells
 pub record IsReadable {p : ℕ} (cells count : ℕ) (part : PairPart p) : Type 0 where
   pub cycles : AreNamed cells (map (λ z. z.1) part.cycles.items)
   pub cocycles : AreNamed cells part.cocycles.items

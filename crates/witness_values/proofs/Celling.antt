@@ -1,7 +1,6 @@
 -- The lines of one cell of the domain.
-use Rattle.std.proofs.Common.{◌≡◌, ℕ, zero, suc, ◌+◌, ◌-◌, ◌<◌, ◌≤◌, refl, sym, ap, ◌∙◌, subst, arith, List, [], ◌∷◌, ◌++◌, length, length-append, get_or, map, Option, Some, None}
+use Rattle.std.proofs.Common.{◌≡◌, ℕ, suc, ◌+◌, ◌-◌, ◌<◌, sym, ap, ◌∙◌, subst, arith, List, [], ◌∷◌, length, length-append, get_or, map, Option, Some, None}
 use Rattle.std.specs.List.{Contains}
-use Rattle.std.proofs.lemmas.List.{get_or-map, get_or_default}
 use Rattle.elem_cubes.specs.Cells.{Factor}
 use Rattle.elem_cubes.specs.Laws.{cell_at}
 use Rattle.chains.specs.ChainComplex.{ChainComplex}
@@ -14,10 +13,10 @@ use Rattle.witness_laws.specs.declared.law.WitnessFault.TheVariants.{At, NoMemor
 use Rattle.witness_laws.specs.Lines.{Line, vertex, image}
 use Rattle.witness_laws.specs.Inputs.{Given, all_cells}
 use Rattle.witness_laws.specs.Parts.{value_at, range_cells, nth, vertex_of}
-use Rattle.witness_laws.specs.Tables.{MapTables, Tables, map_of, holds}
+use Rattle.witness_laws.specs.Tables.{Tables, map_of, holds}
 use Rattle.witness_laws.proofs.Mapping.{vertex_inside}
 use Rattle.witness_types.specs.declared.part.MapPart.{MapPart}
-use Rattle.witness_sections.specs.Outcomes.{AllHold, FailsBy, IsLineOutcome, Meet, Fails, ArePassed, IsFaultAmong}
+use Rattle.witness_sections.specs.Outcomes.{AllHold, IsLineOutcome}
 use Rattle.witness_sections.specs.Readings.{AreRead, IsNamed}
 use Rattle.witness_sections.proofs.Lining.{meet_append, fails_front, fails_behind}
 use Rattle.witness_values.specs.Fillings.{IsValueOf, fillings_in, FillingsPassed, IsFillingFault}

@@ -1,5 +1,5 @@
 -- The law of the chains of a value, over places and over the witness.
-use Rattle.std.proofs.Common.{◌≡◌, ◌↔◌, ℕ, zero, suc, ◌+◌, ◌*◌, ◌<◌, ◌≤◌, refl, sym, ap, ◌∙◌, subst, arith, ⊎_elim, List, [], ◌∷◌, length, get_or, map, Bool, true, false, cond, eqb, ltb, ne_eqb}
+use Rattle.std.proofs.Common.{◌≡◌, ℕ, zero, suc, ◌+◌, ◌*◌, ◌<◌, ◌≤◌, refl, sym, ap, ◌∙◌, arith, ⊎_elim, List, [], ◌∷◌, length, get_or, Bool, true, false, cond, eqb, ne_eqb}
 use Rattle.std.proofs.lemmas.Bool.{cases_lt, lt-ltb}
 use Rattle.std.proofs.lemmas.List.{get_or_past, get_or-map}
 use native.Mathlib.Nat.{mul-zero}
@@ -11,9 +11,8 @@ use Rattle.elem_cubes.specs.Cells.{Factor, dimension_of}
 use Rattle.elem_cubes.specs.Boundary.{boundary_coefficient}
 use Rattle.elem_cubes.specs.Laws.{cell_at}
 use Rattle.elem_cubes.proofs.Modular.{exact}
-use Rattle.chains.specs.Terms.{coefficient, nth_chain}
+use Rattle.chains.specs.Terms.{nth_chain}
 use Rattle.chains.specs.ChainComplex.{ChainComplex, boundary, incidence}
-use Rattle.cell_complex.specs.Numbering.{by_number}
 use Rattle.cell_complex.proofs.Numbering.{coefficient-past}
 use Rattle.acyclic_values.specs.Contractions.{incidence_at, augmentation_at}
 use Rattle.algebraic_reduction.specs.Reduction.{single}
@@ -25,10 +24,9 @@ use Rattle.witness_laws.specs.Inputs.{Given}
 use Rattle.witness_laws.specs.Parts.{chain_of, nth, value_at, range_cells, vertex_of}
 use Rattle.witness_laws.specs.Tables.{MapTables, Tables, map_of, holds, filling_of, ValueContractsAt}
 use Rattle.witness_sections.specs.Outcomes.{second, AllHold, FailsBy, Meet}
-use Rattle.witness_sections.specs.Readings.{AreRead}
 use Rattle.witness_sections.proofs.Lining.{meet_more}
 use Rattle.witness_sections.proofs.Loops.{fault_in_row, passed_row}
-use Rattle.witness_values.specs.Fillings.{IsValueOf, base, FillsBy, fillings_in, FillingsPassed, IsFillingFault}
+use Rattle.witness_values.specs.Fillings.{IsValueOf, base, FillsBy, FillingsPassed, IsFillingFault}
 
 module _ (p : ℕ) (K : ChainComplex) (hs : List (List (ℕ × ℕ))) (v : ℕ) (G : Given) (M : MapTables) (i : ℕ) (w : IsValueOf p K hs v G M i) (m : ℕ) (lm : m < length (value_at G i)) where
   abbrev V : List (List Factor)

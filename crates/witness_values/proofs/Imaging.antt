@@ -1,8 +1,8 @@
 -- The laws of images, over numbers and over cells.
-use Rattle.std.proofs.Common.{◌≡◌, ◌≢◌, ◌↔◌, ℕ, zero, suc, ◌+◌, ◌-◌, ◌*◌, ◌%◌, ◌^◌, ◌<◌, ◌≤◌, refl, sym, ap, ◌∙◌, subst, arith, ⊎_elim, List, [], ◌∷◌, ◌++◌, length, get_or, take, Bool, true, false, true≢false, cond, eqb, add-zero, Option, Some, None}
+use Rattle.std.proofs.Common.{◌≡◌, ◌↔◌, ℕ, zero, suc, ◌+◌, ◌-◌, ◌*◌, ◌%◌, ◌^◌, ◌<◌, ◌≤◌, refl, sym, ap, ◌∙◌, subst, arith, ⊎_elim, List, [], ◌∷◌, ◌++◌, length, get_or, take, true, false, true≢false, cond, eqb, Option, Some, None}
 use Rattle.std.specs.List.{Contains}
 use Rattle.std.proofs.lemmas.Bool.{cases_lt, cases_Bool}
-use Rattle.std.proofs.lemmas.List.{get_or_past, get_or-map, get_or_default, take_more, take_all}
+use Rattle.std.proofs.lemmas.List.{get_or_past, get_or-map, take_more, take_all}
 use native.Mathlib.Nat.{mul-zero, mod-mod}
 use Rattle.std.proofs.Math.Nat.{mod-eq_of_lt}
 use Rattle.field_mod.specs.Sums.{total}
@@ -11,12 +11,11 @@ use Rattle.field_mod.proofs.Sums.{total-same, total-zero, total-add, total-singl
 use Rattle.field_mod.proofs.Modular.{same_by, same_refl, same_sym, same_trans, same-add, same-mul, neg_cancel}
 use Rattle.elem_cubes.specs.Cells.{Factor, dimension_of}
 use Rattle.elem_cubes.specs.Boundary.{boundary_at, boundary_coefficient}
-use Rattle.elem_cubes.specs.Faces.{IsFace}
 use Rattle.elem_cubes.specs.Laws.{cell_at}
 use Rattle.elem_cubes.proofs.Modular.{exact}
 use Rattle.elem_cubes.proofs.Boundaries.{boundary_at_is_boundary}
 use Rattle.elem_cubes.proofs.Zeros.{face_or_zero}
-use Rattle.chains.specs.Terms.{coefficient, nth_chain, augmentation, IsNormal}
+use Rattle.chains.specs.Terms.{coefficient, nth_chain, augmentation}
 use Rattle.chains.specs.ChainComplex.{ChainComplex, boundary, incidence}
 use Rattle.chains.proofs.TermLists.{named_at}
 use Rattle.cube_sets.specs.Closures.{is_cell_of}
@@ -35,7 +34,7 @@ use Rattle.witness_laws.specs.Parts.{chain_of, nth, cell_of, value_at, range_cel
 use Rattle.witness_laws.specs.Tables.{Tables, map_of, holds}
 use Rattle.witness_laws.proofs.Naming.{none_or}
 use Rattle.witness_sections.specs.Outcomes.{second, AllHold, FailsBy, IsLineOutcome}
-use Rattle.witness_sections.specs.Readings.{IsRead, AreRead, IsNamed}
+use Rattle.witness_sections.specs.Readings.{IsNamed}
 use Rattle.witness_sections.proofs.Parting.{reduced}
 use Rattle.witness_values.specs.Images.{IsCarriedBy, AugmentsBy, CommutesBy, IsImageOutcome, AreImagesOf, IsImageTold}
 

@@ -1,5 +1,5 @@
 -- The lines of all cells, one cell after the other.
-use Rattle.std.proofs.Common.{◌≡◌, ℕ, zero, suc, ◌+◌, ◌<◌, ◌≤◌, refl, sym, ap, ◌∙◌, subst, arith, List, length}
+use Rattle.std.proofs.Common.{◌≡◌, ℕ, zero, suc, ◌+◌, ◌<◌, ◌≤◌, sym, ap, ◌∙◌, subst, arith, List, length}
 use Rattle.field_mod.specs.Sums.{total}
 use Rattle.elem_cubes.specs.Cells.{Factor}
 use Rattle.cube_maps.specs.CubeMaps.{Naming}
@@ -9,7 +9,7 @@ use Rattle.witness_laws.specs.Lines.{each}
 use Rattle.witness_laws.specs.Inputs.{Given}
 use Rattle.witness_laws.specs.Tables.{Tables, map_of, holds}
 use Rattle.witness_types.specs.declared.part.MapPart.{MapPart}
-use Rattle.witness_sections.specs.Outcomes.{ArePassed, IsFaultAmong}
+use Rattle.witness_sections.specs.Outcomes.{ArePassed}
 use Rattle.witness_sections.proofs.Lining.{meet_more, fails_in_each, length_more}
 use Rattle.witness_values.specs.declared.cells.MapSides.{MapSides}
 use Rattle.witness_values.specs.Cells.{AreSidesOf, CellsPassed, IsCellFaultOf, cell_lines, all_cell_lines, chains_at, cell_line_count}

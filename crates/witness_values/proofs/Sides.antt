@@ -1,6 +1,6 @@
 -- The values of the map of a witness.
-use Rattle.std.proofs.Common.{◌≡◌, ℕ, zero, suc, ◌+◌, ◌^◌, ◌<◌, ◌≤◌, refl, sym, ap, ◌∙◌, subst, arith, ⊎_elim, List, [], ◌∷◌, length, filter, cond, Bool, true, false}
-use Rattle.std.specs.List.{Contains, list_all}
+use Rattle.std.proofs.Common.{◌≡◌, ℕ, ◌<◌, ◌≤◌, sym, ap, ◌∙◌, subst, arith, List, [], ◌∷◌, length, filter, cond, Bool, true, false}
+use Rattle.std.specs.List.{list_all}
 use Rattle.std.proofs.lemmas.List.{get_or_default}
 use Rattle.std.proofs.lemmas.List.Elements.{Contains-get_or}
 use Rattle.std.proofs.lemmas.List.Kept.{IsStrictlySortedBy-filter}
@@ -12,14 +12,13 @@ use Rattle.cube_sets.specs.Closures.{is_cell_of}
 use Rattle.cube_maps.specs.CubeMaps.{Naming}
 use Rattle.cell_complex.specs.Sorted.{IsSortedCells}
 use Rattle.cell_complex.specs.Numbering.{IsOfPair}
-use Rattle.cell_complex.specs.RelativeComplex.{IsClosedList}
 use Rattle.cell_complex.proofs.Numbering.{listed}
 use Rattle.acyclic_values.specs.Values.{in_value, IsValueAt}
 use Rattle.acyclic_values.proofs.Cells.{cells_listing, all_In, In_all, filter_In}
 use Rattle.acyclic_values.proofs.Values.{values_are_one}
 use Rattle.acyclic_values.proofs.Making.{pair_of}
 use Rattle.map_checks.specs.Faults.{together, AreNamed}
-use Rattle.witness_laws.specs.Inputs.{Given, Target, target_of, all_cells, value_cells}
+use Rattle.witness_laws.specs.Inputs.{Given, target_of, all_cells}
 use Rattle.witness_laws.specs.Parts.{cell_of, value_at, range_cells}
 use Rattle.witness_laws.specs.Tables.{Tables}
 use Rattle.witness_laws.proofs.Mapping.{value_here, value_list}

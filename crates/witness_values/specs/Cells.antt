@@ -1,12 +1,12 @@
 -- The values and images of a map, read over the numbers of its cells.
-use Rattle.std.specs.Prelude.{◌≡◌, ℕ, ◌+◌, ◌<◌, List, [], ◌∷◌, ◌++◌, length, map, slice_index, slice_index_or}
+use Rattle.std.specs.Prelude.{◌≡◌, ℕ, ◌+◌, ◌<◌, List, [], ◌∷◌, ◌++◌, length, map, slice_index_or}
 use Rattle.field_mod.specs.Sums.{total}
 use Rattle.elem_cubes.specs.Cells.{Factor}
 use Rattle.cell_complex.specs.Sorted.{IsSortedCells}
 use Rattle.cube_maps.specs.CubeMaps.{Naming}
 use Rattle.map_checks.specs.Faults.{together}
 use Rattle.witness_laws.specs.declared.law.WitnessFault.{WitnessFault}
-use Rattle.witness_laws.specs.Lines.{Line, vertex, filling, image, each}
+use Rattle.witness_laws.specs.Lines.{Line, vertex, image, each}
 use Rattle.witness_laws.specs.Inputs.{Given, target_of, all_cells, IsWithoutFault}
 use Rattle.witness_laws.specs.Parts.{value_at, range_cells, NamesVertex}
 use Rattle.witness_laws.specs.Tables.{MapTables, Tables, map_of, holds}
@@ -18,7 +18,8 @@ use Rattle.witness_values.specs.Fillings.{fillings_in}
 use Rattle.witness_values.specs.declared.cells.MapSides.{MapSides}
 
 -- the sides are those of the map of a witness whose part this is: its sets have no fault, and its
--- lines name cells of the kinds that they may name
+-- lines name cells of the kinds that
+-- they may name
 pub record AreSidesOf {p : ℕ} (s : MapSides p) (m : List Naming) (set : List (List Factor))
     (part : MapPart p) (G : Given) (W : Tables) : Type 0 where
   pub fault : IsWithoutFault G (target_of G)

@@ -1,8 +1,7 @@
 -- The chains of a value, read over the places of its cells.
 use Rattle.std.specs.Prelude.{◌≡◌, ℕ, ◌+◌, ◌<◌, List, [], ◌∷◌, length, slice_index, slice_index_or, if◌then◌else◌, ◌==◌}
 use Rattle.field_mod.specs.Modular.{Same}
-use Rattle.elem_cubes.specs.Cells.{Factor}
-use Rattle.chains.specs.Terms.{coefficient, nth_chain}
+use Rattle.chains.specs.Terms.{nth_chain}
 use Rattle.chains.specs.ChainComplex.{ChainComplex, boundary, incidence}
 use Rattle.cell_complex.specs.Numbering.{IsComplexOf}
 use Rattle.algebraic_reduction.specs.Reduction.{single}
@@ -31,9 +30,9 @@ base degrees v m g = if slice_index degrees m == 0 then single v g else 0
 abbrev pub FillsBy : ℕ → ChainComplex → List (List (ℕ × ℕ)) → ℕ → ℕ → Type 0
 FillsBy p K hs v m =
     (g : ℕ) → Same p
-    (base K.degrees v m g +
-    (boundary K.boundaries (nth_chain hs m) g + boundary hs (incidence K.boundaries m) g))
-    (single m g)
+    (base K.degrees v m g
+    + (boundary K.boundaries (nth_chain hs m) g
+    + boundary hs (incidence K.boundaries m) g)) (single m g)
 
 -- the lines of the chains of the i-th value
 abbrev pub fillings_in : ℕ → MapTables → List Line

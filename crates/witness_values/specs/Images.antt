@@ -1,5 +1,5 @@
 -- The images of cells, read over the numbers of the cells of the range.
-use Rattle.std.specs.Prelude.{◌≡◌, ℕ, ◌-◌, ◌<◌, List, [], length, slice_index, slice_index_or, Option, Some, None}
+use Rattle.std.specs.Prelude.{◌≡◌, ℕ, ◌-◌, ◌<◌, List, length, slice_index, slice_index_or, Option, Some, None}
 use Rattle.std.specs.List.{Contains}
 use Rattle.field_mod.specs.Modular.{Same}
 use Rattle.elem_cubes.specs.Cells.{Factor}

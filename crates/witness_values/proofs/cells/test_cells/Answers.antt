@@ -1,4 +1,4 @@
-use Rattle.std.proofs.Common.{◌≡◌, ◌+◌, ◌<◌, ◌≤◌, length, arith}
+use Rattle.std.proofs.Common.{◌<◌, length, arith}
 use Rattle.std.proofs.lemmas.Result.{err_from_is_err_and}
 use Rattle.witness_values.proofs.Looping.{first_more, first_fault, all_passed, count_next, count_room}
 use Rattle.witness_values.proofs.cells.test_cells.Goals as goal

@@ -1,5 +1,4 @@
-use Rattle.std.proofs.Common.{◌≡◌, ◌∙◌, sym, subst, List}
-use Rattle.elem_cubes.specs.Cells.{Factor}
+use Rattle.std.proofs.Common.{◌∙◌, sym, subst}
 use Rattle.cell_complex.specs.Sorted.{IsSortedCells}
 use Rattle.witness_values.proofs.Sides.{in_set, cubes_named, value_is, value_sorted}
 use Rattle.witness_values.proofs.cells.value_of.Goals as goal

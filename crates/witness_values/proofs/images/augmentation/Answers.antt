@@ -1,4 +1,4 @@
-use Rattle.std.proofs.Common.{◌<◌, length, arith}
+use Rattle.std.proofs.Common.{arith}
 use Rattle.witness_values.proofs.Imaging.{augmentation_more}
 use Rattle.witness_values.proofs.images.augmentation.Goals as goal
 

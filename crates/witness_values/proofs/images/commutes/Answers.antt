@@ -1,4 +1,4 @@
-use Rattle.std.proofs.Common.{◌≡◌, ◌∙◌, ◌+◌, ◌*◌, ◌%◌, ◌<◌, ℕ, [], length, get_or, ap, arith}
+use Rattle.std.proofs.Common.{◌∙◌, ◌+◌, ◌*◌, ◌%◌, ◌<◌, ℕ, [], length, ap, arith}
 use Rattle.std.proofs.lemmas.List.{get_or_default}
 use Rattle.field_mod.proofs.Table.{two_le}
 use Rattle.chains.specs.Terms.{coefficient, nth_chain}
