@@ -4,6 +4,7 @@
 ghost use Rattle.std.specs.Prelude.{IfSome};
 ghost use Rattle.pair_maps.specs.Inputs.{IsFitting};
 
+use elem_cubes::{Cell, Corner};
 use faults::Name;
 use outside::MemFiles;
 use pair_maps::{MapFiles, PairMap, load_pair_map};
@@ -79,4 +80,12 @@ pub(crate) fn doubling(alloc: Global) -> Option<PairMap>
         Ok(input) => Some(input),
         Err(_) => None,
     }
+}
+
+/// The vertex of the line at a whole number, or the segment behind it.
+pub(crate) fn cell_of_line(at: i32, is_segment: bool) -> Option<Cell> {
+    let Some(corner) = Corner::of(&[at]) else {
+        return None;
+    };
+    Cell::new(corner, u8::from(is_segment))
 }

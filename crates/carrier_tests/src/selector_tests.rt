@@ -1,9 +1,9 @@
 //! Images of cells and of chains under the map that doubles, modulo 3.
 
-use crate::doubling::doubling;
+use crate::doubling::{cell_of_line, doubling};
 use chain_selector::Selector;
 use chains::Chain;
-use elem_cubes::{Cell, Corner};
+use elem_cubes::Cell;
 use field_mod::Field;
 use pair_maps::carrier_of;
 use std::alloc::Global;
@@ -20,14 +20,6 @@ fn selector_of_doubling(alloc: Global, field: Field<3>) -> Option<Selector<3>> {
         Ok(selector) => Some(selector),
         Err(_) => None,
     }
-}
-
-// The vertex of the line at a whole number, or the segment behind it.
-fn cell_of_line(at: i32, is_segment: bool) -> Option<Cell> {
-    let Some(corner) = Corner::of(&[at]) else {
-        return None;
-    };
-    Cell::new(corner, u8::from(is_segment))
 }
 
 // The image of a cell, where it is one of the domain.
