@@ -8,7 +8,7 @@ use Rattle.std.specs.declared.string.String.{String}
 use Rattle.command_line.specs.declared.form.ToolName.{ToolName}
 use Rattle.command_line.specs.declared.form.ToolName.TheVariants as tools
 use Rattle.command_line.specs.declared.choice.Choice.{Choice}
-use Rattle.command_line.specs.declared.choice.Choice.TheVariants.{Modulus, Cycles, Stats, Map, Matrix, Index, SetAlone}
+use Rattle.command_line.specs.declared.choice.Choice.TheVariants.{Modulus, Cycles, Stats, Map, Matrix, Index, Witness, SetAlone}
 use Rattle.command_line.specs.declared.choice.Setting.{Setting}
 use Rattle.command_line.specs.Operands.{holes_named}
 pub use Rattle.command_line.specs.Operands.{named}
@@ -33,7 +33,7 @@ of_homology = Modulus ∷ Cycles ∷ []
 
 -- the options of the tool on pairs of sets and on maps between such pairs
 abbrev pub of_pairs : List Choice
-of_pairs = Modulus ∷ Cycles ∷ Stats ∷ Map ∷ Matrix ∷ Index ∷ []
+of_pairs = Modulus ∷ Cycles ∷ Stats ∷ Map ∷ Matrix ∷ Index ∷ Witness ∷ []
 
 -- the options of the tool on the values of maps
 abbrev pub of_maps : List Choice
@@ -53,6 +53,7 @@ forms =
     ∷ row tools.Homchain (codes "homchain") 1 1 of_homology
     ∷ row tools.Gen (codes "gen") 2 2 of_generator
     ∷ row tools.Chkmvmap (codes "chkmvmap") 3 3 of_maps
+    ∷ row tools.Replay (codes "replay") 2 6 []
     ∷ []
 
 -- an option: its name, and whether it takes a value
@@ -63,6 +64,7 @@ option_name Stats = codes "--stats"
 option_name Map = codes "--map"
 option_name Matrix = codes "--matrix"
 option_name Index = codes "--index"
+option_name Witness = codes "--witness"
 option_name SetAlone = codes "--set"
 
 abbrev pub takes_value : Choice → Bool
@@ -72,6 +74,7 @@ takes_value Stats = false
 takes_value Map = true
 takes_value Matrix = false
 takes_value Index = false
+takes_value Witness = true
 takes_value SetAlone = false
 
 -- whether the option stands with no other
@@ -206,6 +209,7 @@ same_choice Stats Stats = true
 same_choice Map Map = true
 same_choice Matrix Matrix = true
 same_choice Index Index = true
+same_choice Witness Witness = true
 same_choice SetAlone SetAlone = true
 same_choice choice other = false
 
@@ -241,10 +245,12 @@ of_map form = row tools.MapHomology form.name 4 4 form.options
 abbrev pub form_with : List Setting → Row → Row
 form_with settings form = if is_set Map settings then of_map form else form
 
--- the operands are words that the tool takes: those of the generator name a number of holes, and
+-- the operands are words that the tool takes: those of the generator name a number of holes; those
+-- of the replayer are a witness and a set, a witness and a pair, or a witness, a map and two pairs;
 -- those of other tools are any words
 abbrev pub are_operands : ToolName → List (List ℕ) → Bool
 are_operands tools.Gen operands = is_some (holes_named operands)
+are_operands tools.Replay operands = nat_le (length operands) 3 || nat_le 6 (length operands)
 are_operands tool operands = true
 
 -- neither too few operands nor too many, all of them words that the tool takes; options that may

@@ -19,6 +19,7 @@ pub enum ToolName {
     Homchain,
     Gen,
     Chkmvmap,
+    Replay,
 }
 
 /// A row of the table of forms: a tool with its name, the fewest and the most operands, one at
@@ -47,13 +48,14 @@ impl Model for Form {
 const OF_HOMOLOGY: [Choice; 2] = [Choice::Modulus, Choice::Cycles];
 
 // The options of the tool on pairs of sets and on maps between such pairs.
-const OF_PAIRS: [Choice; 6] = [
+const OF_PAIRS: [Choice; 7] = [
     Choice::Modulus,
     Choice::Cycles,
     Choice::Stats,
     Choice::Map,
     Choice::Matrix,
     Choice::Index,
+    Choice::Witness,
 ];
 
 // The options of the tool on the values of maps.
@@ -76,6 +78,7 @@ impl Form {
             "homchain" => Some(Form::of(ToolName::Homchain, "homchain", 1, 1, &OF_HOMOLOGY)),
             "gen" => Some(Form::of(ToolName::Gen, "gen", 2, 2, &OF_GENERATOR)),
             "chkmvmap" => Some(Form::of(ToolName::Chkmvmap, "chkmvmap", 3, 3, &OF_MAPS)),
+            "replay" => Some(Form::of(ToolName::Replay, "replay", 2, 6, &[])),
             _ => None,
         }
     }

@@ -4,7 +4,7 @@ use Rattle.outside.specs.Disk.{Disk}
 use Rattle.outside.specs.Seen.{Seen}
 use Rattle.outside.specs.Told.{Gains}
 use Rattle.faults.specs.declared.fault.Fault.{Fault}
-use Rattle.faults.specs.declared.fault.Fault.TheVariants.{NoTool, NotAForm, CannotRead, BadText, NotComplex, Dimension, Limit, Undefined, LeavesRange, LeavesSubset, EmptyValue, NotAcyclic, NotInRange, NotInSubset, Killed, Missed, CannotWriteOut, OutOfMemory}
+use Rattle.faults.specs.declared.fault.Fault.TheVariants.{NoTool, NotAForm, CannotRead, BadText, NotComplex, Dimension, Limit, Undefined, LeavesRange, LeavesSubset, EmptyValue, NotAcyclic, NotInRange, NotInSubset, Killed, Missed, LawFails, CannotWriteOut, CannotWrite, OutOfMemory}
 use Rattle.faults.specs.declared.status.Status.{Status}
 use Rattle.faults.specs.declared.status.Status.TheVariants as statuses
 use Rattle.faults.specs.Statuses.{status_of, without_chain}
@@ -30,7 +30,9 @@ status_without_chain (Undefined cube) = refl
 status_without_chain (LeavesRange cube value) = refl
 status_without_chain (LeavesSubset cube value) = refl
 status_without_chain (EmptyValue cell) = refl
+status_without_chain (LawFails name line law) = refl
 status_without_chain CannotWriteOut = refl
+status_without_chain (CannotWrite name) = refl
 status_without_chain OutOfMemory = refl
 
 one_status : (f g : Fault) → without_chain f ≡ without_chain g → status_of f ≡ status_of g
@@ -143,7 +145,9 @@ module _ (job : Job) (once : HasOneJudgement job) (old new : Seen) where
   caused_so (NotInSubset cube) c e = c
   caused_so (Killed degree chain) c e = c
   caused_so (Missed degree chain) c e = c
+  caused_so (LawFails name line law) c e = cc
   caused_so CannotWriteOut c e = c
+  caused_so (CannotWrite name) c e = c
   caused_so OutOfMemory c e = c
 
   -- a fault that comes up before the writing is not that of a failed write
