@@ -160,7 +160,7 @@ const INDEXED: [Row; 7] = [
     },
     Row {
         words: &["homcubes", "--map", "onto", "gap", "none", "three", "none", "--index"],
-        err: "error: index: degree 0: killed: 1 * [(0)(0)] + 1 * [(3)(3)]\n",
+        err: "error: index: degree 0: killed: 1 * [(1)(1)] + 1 * [(3)(3)]\n",
         ..REFUSED
     },
     Row {
