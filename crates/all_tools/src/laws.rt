@@ -6,5 +6,5 @@ ghost use Rattle.all_tools.specs.Lines.{asked};
 /// Words and files are judged in exactly one way: there is one first refusal, or one input.
 #[tactic(auto, using(crate::specs::Lines::line_once))]
 pub fn judgements_are_one()
-    ensures { (words : List (List ℕ)) → HasOneJudgement (asked words) }
+    ensures { (words : List (List ℕ)) → HasOneJudgement (asked words).job }
 {}

@@ -1,10 +1,11 @@
 -- A job, and a file that is written before its text.
-use Rattle.std.specs.Prelude.{◌≡◌, ℕ, ◌+◌, ◌≤◌, List, Option, None, Some, option_map, Result, Ok, IfOk, IfErr}
+use Rattle.std.specs.Prelude.{◌≡◌, ◌⊎◌, ℕ, ◌+◌, ◌≤◌, List, Option, None, option_map, Result, Ok, Err, IfOk, IfErr, OnOk}
 use Rattle.outside.specs.Causes.{NoneFell}
 use Rattle.outside.specs.Seen.{Seen}
 use Rattle.faults.specs.declared.fault.Fault.{Fault}
+use Rattle.faults.specs.declared.fault.Fault.TheVariants.{OutOfMemory}
 use Rattle.loading.specs.Readings.{reading}
-use Rattle.loading.specs.Jobs.{Job, IsJudged, RestsOn, Leaves}
+use Rattle.loading.specs.Jobs.{Job, IsAllowed, IsJudged, RestsOn, Leaves}
 use Rattle.witness_delivery.specs.Delivery.{WholeFile}
 
 -- what is written: a text, and before it a file, where there is one
@@ -44,3 +45,16 @@ pub record Provides (task : Task) (old new : Seen) (result : Result Written Faul
   pub given : new.given ≤ old.given + task.job.most
   pub left : Leaves task.job old new
   pub writes : NoneFell old.write_faults new.write_faults
+
+-- what a computation promises on an input: what is written to answer it, where nothing refuses it,
+-- or what refuses it
+pub record Produces {A : Type 0} (refuses : A → Fault → Type 0) (answers : A → Written → Type 0)
+    (input : A) (result : Result Written Fault) : Type 0 where
+  pub right : IfOk result (answers input)
+  pub allowed : OnOk result (IsAllowed refuses input)
+  pub fault : IfErr result (λ fault. refuses input fault ⊎ (fault ≡ OutOfMemory))
+
+-- a text alone as what is written
+abbrev pub lifted : Result (List ℕ) Fault → Result Written Fault
+lifted (Ok text) = Ok (record { text = text; file = None })
+lifted (Err fault) = Err fault

@@ -3,6 +3,7 @@ ghost use Rattle.std.specs.Prelude.{◌≡◌, None, Some, option_map, IfOk};
 ghost use Rattle.faults.specs.FaultText.{fault_text};
 ghost use Rattle.witness_delivery.specs.Delivery.{whole};
 ghost use Rattle.tool.specs.Ends.{IsLineOn};
+ghost use Rattle.tool.specs.Tasks.{lifted};
 
 use faults::{Fault, Name, fault_text};
 use loading::Answer;
@@ -104,4 +105,14 @@ fn line_on(alloc: Global, name: &Name) -> Result<Vec<u8>, NoMemory>
 {
     let name = name.copy(alloc)?;
     fault_text(alloc, &Fault::CannotWrite { name })
+}
+
+/// A text that is written alone, or its refusal.
+pub fn alone(answer: Result<Answer, Fault>) -> Result<Output, Fault>
+    ensures { result ≡ lifted answer }
+{
+    match answer {
+        Ok(text) => Ok(Output::of(text, None)),
+        Err(fault) => Err(fault),
+    }
 }

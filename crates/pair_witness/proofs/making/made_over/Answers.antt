@@ -1,0 +1,1 @@
+use Rattle.pair_witness.proofs.making.made_over.Goals as goal
