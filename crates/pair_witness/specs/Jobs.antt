@@ -44,7 +44,7 @@ pub record IsWitnessed (p : ℕ) (pair : TwoSets) (report : PairReport) (bytes :
 
 -- a right report and its witness, where nothing refuses the pair; else what refuses it, or that
 -- memory ran out
-abbrev pub IsMade : ℕ → TwoSets → Result (PairReport × Vec ℕ ℕ) Fault → Type 0
+abbrev pub IsMade : {A : Type 0} → ℕ → TwoSets → Result (PairReport × Vec ℕ A) Fault → Type 0
 IsMade p pair (Ok made) =
     IsWitnessed p pair made.0 made.1.items × IsAllowed RefusesWitness pair
 IsMade p pair (Err fault) = RefusesWitness pair fault ⊎ (fault ≡ OutOfMemory)
