@@ -1,5 +1,5 @@
 -- From a witness with the cycles of a basis to one with the cycles of the report.
-use Rattle.std.proofs.Common.{◌≡◌, ℕ, zero, suc, ◌+◌, ◌<◌, ◌≤◌, refl, sym, ap, ◌∙◌, arith, subst, List, [], ◌∷◌, length, get_or, map, max, Bool, true, false, cond, ◌||◌, true≢false}
+use Rattle.std.proofs.Common.{◌≡◌, ℕ, zero, suc, ◌<◌, ◌≤◌, refl, sym, ap, ◌∙◌, arith, subst, List, [], ◌∷◌, length, get_or, map, max, Bool, true, false, cond, ◌||◌, true≢false}
 use Rattle.std.proofs.lemmas.Bool.Decides.{Decides-eqb}
 use Rattle.std.proofs.lemmas.List.{length-map}
 use Rattle.std.specs.Prelude.{◌==◌}
@@ -8,7 +8,7 @@ use Rattle.elem_cubes.specs.Cells.{Factor}
 use Rattle.chains.specs.Terms.{IsNormalWithin, coefficient}
 use Rattle.cube_sets.specs.Sets.{dimensions_agree}
 use Rattle.cell_complex.specs.RelativeComplex.{is_relative}
-use Rattle.cell_complex.specs.Numbering.{by_cell, cell_coefficient, cell_terms}
+use Rattle.cell_complex.specs.Numbering.{cell_coefficient, cell_terms}
 use Rattle.homology_basis.specs.Bases.{BasisOfLog, CyclesOfLog, in_degree, IsBasisByCycles, IsBasisWithContraction}
 use Rattle.basis_reports.proofs.Normal.{in_normal_form}
 use Rattle.chains.proofs.TermLists.{coefficient-above}
