@@ -53,7 +53,6 @@ forms =
     ∷ row tools.Homchain (codes "homchain") 1 1 of_homology
     ∷ row tools.Gen (codes "gen") 2 2 of_generator
     ∷ row tools.Chkmvmap (codes "chkmvmap") 3 3 of_maps
-    ∷ row tools.Replay (codes "replay") 2 6 []
     ∷ []
 
 -- an option: its name, and whether it takes a value
@@ -224,18 +223,22 @@ abbrev pub are_once : List Setting → Bool
 are_once [] = true
 are_once (s ∷ ss) = not (is_set s.choice ss) && are_once ss
 
--- no other option stands beside one that stands alone, and matrices and index matrices are those of
--- a map
+-- no other option stands beside one that stands alone, matrices and index matrices are those of a
+-- map, and a witness is that of a pair
 abbrev pub has_alone : List Setting → Bool
 has_alone settings = list_any (λ s. stands_alone s.choice) settings
 
 abbrev pub asks_of_map : List Setting → Bool
 asks_of_map settings = is_set Matrix settings || is_set Index settings
 
+abbrev pub is_amiss : List Setting → Bool
+is_amiss settings =
+    if is_set Map settings then is_set Witness settings else asks_of_map settings
+
 abbrev pub agree : List Setting → Bool
 agree settings =
     (nat_le (length settings) 1 || not (has_alone settings))
-    && (is_set Map settings || not (asks_of_map settings))
+    && not (is_amiss settings)
 
 -- the form that the options choose: with a map it is that of maps, whose operands are the domain,
 -- its subset, the range and its subset
@@ -245,12 +248,10 @@ of_map form = row tools.MapHomology form.name 4 4 form.options
 abbrev pub form_with : List Setting → Row → Row
 form_with settings form = if is_set Map settings then of_map form else form
 
--- the operands are words that the tool takes: those of the generator name a number of holes; those
--- of the replayer are a witness and a set, a witness and a pair, or a witness, a map and two pairs;
+-- the operands are words that the tool takes: those of the generator name a number of holes, and
 -- those of other tools are any words
 abbrev pub are_operands : ToolName → List (List ℕ) → Bool
 are_operands tools.Gen operands = is_some (holes_named operands)
-are_operands tools.Replay operands = nat_le (length operands) 3 || nat_le 6 (length operands)
 are_operands tool operands = true
 
 -- neither too few operands nor too many, all of them words that the tool takes; options that may
