@@ -1,5 +1,5 @@
 -- The jobs of this crate are judged in one way.
-use Rattle.std.proofs.Common.{◌≡◌, ◌≢◌, ◌<◌, ◌≤◌, ℕ, List, length, refl, sym, ap, ◌∙◌, ◌⊎◌, inl, inr, ⊎_elim, arith}
+use Rattle.std.proofs.Common.{◌≡◌, ◌≢◌, ◌≤◌, ℕ, List, length, refl, sym, ap, ◌∙◌, ◌⊎◌, inl, inr, ⊎_elim, arith}
 use Rattle.std.proofs.lemmas.Bool.{cases_lt}
 use Rattle.faults.specs.declared.fault.Fault.{Fault}
 use Rattle.faults.specs.declared.fault.Fault.TheVariants.{Limit}
@@ -22,7 +22,7 @@ all_of pair = length (all_cells pair.x.cells pair.y.cells)
 -- few cells, and few of both sets
 pub allowed_so : (pair : TwoSets) → IsAllowed RefusesPair pair → all_of pair ≤ most_witness_cells → IsAllowed RefusesWitness pair
 allowed_so pair none few fault (inl r) = none fault r
-allowed_so pair none few fault (inr (none', r)) = omega (arith, r.0, few)
+allowed_so pair none few fault (inr (none', more, is)) = omega (arith, more, few)
 
 limit_never_writes : statuses.Limit ≡ statuses.Write → ⊥
 limit_never_writes e = cc

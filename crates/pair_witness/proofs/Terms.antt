@@ -1,5 +1,5 @@
 -- Cycles as they are printed are the numbered ones, as chains of cells.
-use Rattle.std.proofs.Common.{◌≡◌, ℕ, zero, suc, ◌+◌, ◌<◌, ◌≤◌, ⊎_elim, refl, sym, ap, ◌∙◌, arith, List, [], ◌∷◌, length, get_or, map, Bool, true, false, cond, eq-eqb, ne_eqb}
+use Rattle.std.proofs.Common.{◌≡◌, ℕ, ◌+◌, ◌<◌, ◌≤◌, ⊎_elim, refl, sym, ap, ◌∙◌, arith, List, [], ◌∷◌, length, Bool, true, false, cond, eq-eqb, ne_eqb}
 use Rattle.std.specs.Prelude.{◌==◌}
 use Rattle.std.proofs.lemmas.Bool.{true≢false, cases_lt, cases_eq, cases_Bool, lt-ltb, le-ltb}
 use Rattle.elem_cubes.specs.Cells.{Factor, same_cell}

@@ -1,11 +1,14 @@
 -- From a witness with the cycles of a basis to one with the cycles of the report.
-use Rattle.std.proofs.Common.{◌≡◌, ℕ, zero, suc, ◌+◌, ◌<◌, ◌≤◌, refl, sym, ap, ◌∙◌, arith, subst, List, [], ◌∷◌, length, get_or, map, length-map, max, true}
+use Rattle.std.proofs.Common.{◌≡◌, ℕ, zero, suc, ◌<◌, ◌≤◌, refl, sym, ap, ◌∙◌, arith, subst, List, [], ◌∷◌, length, get_or, map, max, Bool, true, false, cond, ◌||◌, true≢false}
+use Rattle.std.proofs.lemmas.Bool.Decides.{Decides-eqb}
+use Rattle.std.proofs.lemmas.List.{length-map}
+use Rattle.std.specs.Prelude.{◌==◌}
 use Rattle.field_mod.specs.Modular.{Same}
 use Rattle.elem_cubes.specs.Cells.{Factor}
 use Rattle.chains.specs.Terms.{IsNormalWithin, coefficient}
 use Rattle.cube_sets.specs.Sets.{dimensions_agree}
 use Rattle.cell_complex.specs.RelativeComplex.{is_relative}
-use Rattle.cell_complex.specs.Numbering.{by_cell, cell_coefficient, cell_terms}
+use Rattle.cell_complex.specs.Numbering.{cell_coefficient, cell_terms}
 use Rattle.homology_basis.specs.Bases.{BasisOfLog, CyclesOfLog, in_degree, IsBasisByCycles, IsBasisWithContraction}
 use Rattle.basis_reports.proofs.Normal.{in_normal_form}
 use Rattle.chains.proofs.TermLists.{coefficient-above}
@@ -38,7 +41,14 @@ without_cocycles p b h = record {
 
 -- the dimension that is known first is the greater one
 pub first_is_greater : (d e : ℕ) → dimensions_agree d e ≡ true → first_known (d ∷ e ∷ []) ≡ max d e
-first_is_greater d e agree = omega (arith, agree)
+first_is_greater d e agree = by (d == 0) (e == 0) (d == e) refl refl refl agree
+  where
+    by : (x y z : Bool) → (d == 0) ≡ x → (e == 0) ≡ y → (d == e) ≡ z → (z || x || y) ≡ true → cond x (cond y 0 e) d ≡ max d e
+    by true true z a b c o = omega (arith, (Decides-eqb d 0).0 a, (Decides-eqb e 0).0 b)
+    by true false z a b c o = omega (arith, (Decides-eqb d 0).0 a)
+    by false true z a b c o = omega (arith, (Decides-eqb e 0).0 b)
+    by false false true a b c o = omega (arith, (Decides-eqb d e).0 c)
+    by false false false a b c o = absurd (true≢false (sym o))
 
 named_at : (cells : List (List Factor)) (zs : List (List (ℕ × ℕ))) (i : ℕ) → get_or (map (cell_terms cells) zs) i [] ≡ cell_terms cells (get_or zs i [])
 named_at cells [] i = refl

@@ -1,5 +1,5 @@
 -- What `homcubes --witness` is asked to do.
-use Rattle.std.specs.Prelude.{◌≡◌, ◌⊎◌, ◌<◌, ◌≤◌, ℕ, List, Some, length, Result, Ok, Err, Vec}
+use Rattle.std.specs.Prelude.{◌≡◌, ◌⊎◌, ◌<◌, ℕ, List, Some, length, Result, Ok, Err, Vec}
 use Rattle.faults.specs.declared.fault.Fault.{Fault}
 use Rattle.faults.specs.declared.fault.Fault.TheVariants.{Limit, OutOfMemory}
 use Rattle.faults.specs.declared.limit_name.LimitName.TheVariants.{WitnessCells}
@@ -8,7 +8,7 @@ use Rattle.report.specs.declared.reports.Report.TheVariants.{Pair}
 use Rattle.report.specs.declared.reports.Shown.{Shown}
 use Rattle.report.specs.ReportText.{report_text}
 use Rattle.loading.specs.TwoSets.{two_names, two_bytes, AreTwoSetsIn}
-use Rattle.loading.specs.Jobs.{Job, IsAllowed}
+use Rattle.loading.specs.Jobs.{IsAllowed}
 use Rattle.loading.specs.declared.two_sets.TwoSets.{TwoSets}
 use Rattle.pair_tool.specs.declared.homcubes.PairJob.{PairJob}
 use Rattle.pair_tool.specs.Jobs.{RefusesPair, IsHomologyOf, AreCountsOf, IsPairText, shown_of}
@@ -44,7 +44,7 @@ pub record IsWitnessed (p : ℕ) (pair : TwoSets) (report : PairReport) (bytes :
 
 -- a right report and its witness, where nothing refuses the pair; else what refuses it, or that
 -- memory ran out
-abbrev pub IsMade : ℕ → TwoSets → Result (PairReport × Vec ℕ ℕ) Fault → Type 0
+abbrev pub IsMade : {A : Type 0} → ℕ → TwoSets → Result (PairReport × Vec ℕ A) Fault → Type 0
 IsMade p pair (Ok made) =
     IsWitnessed p pair made.0 made.1.items × IsAllowed RefusesWitness pair
 IsMade p pair (Err fault) = RefusesWitness pair fault ⊎ (fault ≡ OutOfMemory)

@@ -1,5 +1,5 @@
 -- What stands after a run that came to its writing.
-use Rattle.std.proofs.Common.{◌≡◌, ◌≢◌, ℕ, ◌≤◌, List, [], Option, None, Some, refl, sym, ◌∙◌, subst, ◌⊎◌, inl, inr, arith}
+use Rattle.std.proofs.Common.{◌≡◌, ℕ, ◌≤◌, List, [], Option, None, Some, refl, sym, ◌∙◌, subst, inl, inr, arith}
 use Rattle.outside.specs.Causes.{Rose, NoneFell}
 use Rattle.outside.specs.Disk.{Disk, Puts, MayPut}
 use Rattle.outside.specs.Seen.{Seen}

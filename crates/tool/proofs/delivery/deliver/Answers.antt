@@ -1,5 +1,5 @@
-use Rattle.std.proofs.Common.{◌≡◌, ℕ, List, Option, refl, subst}
-use Rattle.outside.specs.Told.{Gains, GainsFront}
+use Rattle.std.proofs.Common.{ℕ, List, Option, refl, subst}
+use Rattle.outside.specs.Told.{GainsFront}
 use Rattle.faults.specs.declared.fault.Fault.TheVariants.{CannotWriteOut}
 use Rattle.witness_delivery.specs.Delivery.{WholeFile, HoldsFile, LacksFile}
 use Rattle.tool.proofs.Writing.{file_stops}

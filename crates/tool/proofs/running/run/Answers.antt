@@ -1,4 +1,4 @@
-use Rattle.std.proofs.Common.{◌≡◌, ℕ, List, Option, refl, inl, ◌∙◌, subst, ⊎_elim}
+use Rattle.std.proofs.Common.{ℕ, List, Option, refl, inl, ◌∙◌, subst, ⊎_elim}
 use Rattle.faults.specs.declared.fault.Fault.TheVariants.{OutOfMemory}
 use Rattle.tool.specs.Ends.{OthersStay, name_of}
 use Rattle.tool.proofs.Writing.{holds_from, stops_from, others_same, others_held, others_stopped, stopped_failed}
