@@ -3,6 +3,7 @@ use cube_maps::CubeMap;
 use cube_sets::CubeSet;
 
 /// A pair of sets, or a map from the pair of x and a to that of y and b.
+#[derive(Drop)]
 pub enum Input<'a> {
     /// The pair of x and a.
     Pair {
