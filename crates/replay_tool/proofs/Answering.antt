@@ -1,0 +1,2 @@
+-- From the steps of the tool to its answer.
+use Rattle.std.proofs.Common.{◌≡◌}
