@@ -2,7 +2,9 @@
 ghost use Rattle.std.specs.Prelude.{◌≡◌, ◌<◌, ◌≤◌, ◌⊎◌, length, IfOk, IfErr, OnOk, IsTrue};
 ghost use Rattle.cube_sets.specs.Sets.{dimensions_agree};
 ghost use Rattle.loading.specs.Sets.{most_cubes};
+ghost use Rattle.map_checks.specs.Faults.{IsOfSets};
 ghost use Rattle.pair_maps.specs.Inputs.{IsFitting};
+ghost use Rattle.pair_maps.specs.Telling.{IsTold};
 ghost use Rattle.witness_laws.specs.Inputs.{all_cells};
 ghost use Rattle.replay_tool.specs.declared.inputs.Subject.TheVariants as subjects;
 ghost use Rattle.replay_tool.specs.Inputs.{given_of, IsFit};
@@ -78,11 +80,27 @@ fn test_sets(map: &PairMap) -> Result<(), Fault>
 {
     match check_sets::<2>(&map.map, &map.x, &map.a, &map.y, &map.b) {
         Ok(()) => Ok(()),
-        Err(MapFault::Undefined { cube }) => Err(Fault::Undefined { cube }),
-        Err(MapFault::LeavesRange { cube, value }) => Err(Fault::LeavesRange { cube, value }),
-        Err(MapFault::NotCarried { cube, value }) => Err(Fault::LeavesSubset { cube, value }),
-        Err(MapFault::NotAcyclic { .. }) => unreachable!(),
-        Err(MapFault::NoMemory) => unreachable!(),
+        Err(fault) => Err(told_of_sets(&fault)),
+    }
+}
+
+// A fault of the map and its sets as it is told.
+fn told_of_sets(fault: &MapFault<2>) -> Fault
+    requires { IsOfSets 2 fault.now }
+    ensures { IsTold 2 fault.now result }
+{
+    match fault {
+        MapFault::Undefined { cube } => Fault::Undefined { cube: *cube },
+        MapFault::LeavesRange { cube, value } => Fault::LeavesRange {
+            cube: *cube,
+            value: *value,
+        },
+        MapFault::NotCarried { cube, value } => Fault::LeavesSubset {
+            cube: *cube,
+            value: *value,
+        },
+        MapFault::NotAcyclic { .. } => unreachable!(),
+        MapFault::NoMemory => unreachable!(),
     }
 }
 
