@@ -9,7 +9,7 @@ use Rattle.witness_runs.specs.declared.miss.Miss.TheVariants as misses
 use Rattle.witness_runs.specs.Misses.{stop_at}
 use Rattle.witness_runs.specs.Kinds.{NamesKind}
 use Rattle.witness_runs.specs.Due.{IsDueCycle, MissesCycle}
-use Rattle.witness_runs.specs.Cycles.{BeginsWithZ, cycles_text, AreCycles, NameDegrees, HasCycles, StopsCycles}
+use Rattle.witness_runs.specs.Cycles.{BeginsWithZ, cycles_text, AreCycles, NameDegrees, last_degree, HasCycles, StopsCycles}
 
 text_push : (zs : List (ℕ × List (ℕ × ℕ))) (z : ℕ × List (ℕ × ℕ)) (u : List ℕ) → cycles_text (zs ++ z ∷ []) ++ u ≡ cycles_text zs ++ (chain_line (codes "z") (z.0 ∷ []) z.1 ++ u)
 text_push [] z u = ap (λ t. t ++ u) (append-nil (chain_line (codes "z") (z.0 ∷ []) z.1))
@@ -25,13 +25,18 @@ names_push : (kinds : List ℕ) (zs : List (ℕ × List (ℕ × ℕ))) (z : ℕ 
 names_push kinds [] z h k = (k, tt)
 names_push kinds (y ∷ zs) z h k = (h.0, names_push kinds zs z h.1 k)
 
+last_push : (low : ℕ) (zs : List (ℕ × List (ℕ × ℕ))) (z : ℕ × List (ℕ × ℕ)) → last_degree low (zs ++ z ∷ []) ≡ z.0
+last_push low [] z = refl
+last_push low (y ∷ zs) z = last_push y.0 zs z
+
 pub cycles_none : (p top : ℕ) (kinds bytes : List ℕ) → HasCycles p top kinds bytes [] 0 bytes
-cycles_none p top kinds bytes = record { are = omega arith; below = omega arith; split = refl; names = tt }
+cycles_none p top kinds bytes = record { last = refl; are = omega arith; below = omega arith; split = refl; names = tt }
 
 pub cycles_more : (p top : ℕ) (kinds bytes : List ℕ) (zs more : List (ℕ × List (ℕ × ℕ))) (low : ℕ) (rest : List ℕ) (k : ℕ) (c : List (ℕ × ℕ)) (behind : List ℕ) → HasCycles p top kinds bytes zs low rest
     → IsDueCycle p low top kinds rest k c behind → more ≡ zs ++ (k, c) ∷ [] → HasCycles p top kinds bytes more k behind
 cycles_more p top kinds bytes zs more low rest k c behind h d e =
     subst (λ (x : List (ℕ × List (ℕ × ℕ))). HasCycles p top kinds bytes x k behind) (sym e) (record {
+      last = sym (last_push 0 zs (k, c));
       are = are_push p 0 low zs (k, c) h.are d.above d.due.are;
       below = d.below;
       split = h.split ∙ ap (λ t. cycles_text zs ++ t) d.due.split ∙ sym (text_push zs (k, c) behind);

@@ -30,9 +30,15 @@ abbrev pub NameDegrees : List ℕ → List (ℕ × List (ℕ × ℕ)) → Type 0
 NameDegrees kinds [] = Unit {0}
 NameDegrees kinds (z ∷ zs) = NamesKind kinds (z.0 + 1) z.1 × NameDegrees kinds zs
 
--- cycles at the front, with the degree from which on others may follow
+-- the degree of the last cycle, or the one from which on they go
+abbrev pub last_degree : ℕ → List (ℕ × List (ℕ × ℕ)) → ℕ
+last_degree low [] = low
+last_degree low (z ∷ zs) = last_degree z.0 zs
+
+-- cycles at the front, with the degree from which on others may follow: that of the last
 pub record HasCycles (p top : ℕ) (kinds bytes : List ℕ) (cycles : List (ℕ × List (ℕ × ℕ)))
     (low : ℕ) (rest : List ℕ) : Type 0 where
+  pub last : low ≡ last_degree 0 cycles
   pub are : AreCycles p 0 low cycles
   pub below : low ≤ top
   pub split : bytes ≡ cycles_text cycles ++ rest
