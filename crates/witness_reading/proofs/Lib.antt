@@ -6,3 +6,6 @@ pub mod Runs
 pub mod Naming
 pub mod Cycling
 pub mod Running
+pub mod Flat
+pub mod Items
+pub mod Places
