@@ -9,3 +9,5 @@ pub mod Running
 pub mod Flat
 pub mod Items
 pub mod Places
+pub mod Sections
+pub mod Leaving
