@@ -11,3 +11,4 @@ pub mod Items
 pub mod Places
 pub mod Sections
 pub mod Leaving
+pub mod Parting

@@ -55,13 +55,13 @@ module _ (p top : ℕ) (kinds numbers wanted : List ℕ) (K : List (ℕ × List 
     chains_over : (cs : List (ℕ × List (ℕ × ℕ))) (ys : List Item) → Chains cs ys → FirstIsZ (texts ys) → ⊥
     chains_over cs ys = run_over p (codes "h") None kinds (heads numbers wanted) (λ _. K cs) (λ ns c (q : 104 ≡ 122). omega arith) (λ xs ys. over cs ys) ys
 
-    pair_over : IsOver Cocycles
+    pub pair_over : IsOver Cocycles
     pair_over cs ys = run_over p (codes "c") None kinds (heads (degrees_of cs) (kinds_of cs)) (λ _. Chains cs) (λ ns c (q : 99 ≡ 122). omega arith) (λ xs ys. chains_over cs ys) ys
 
-    chains_some : (cs : List (ℕ × List (ℕ × ℕ))) → (ys : List Item) × Chains cs ys
+    pub chains_some : (cs : List (ℕ × List (ℕ × ℕ))) → (ys : List Item) × Chains cs ys
     chains_some cs = run_some (IsRunItem p (codes "h") None kinds) (heads numbers wanted) (λ _. K cs) (some_run p (codes "h") None kinds) (λ xs a e. fills cs)
 
-    cocycles_some : (cs : List (ℕ × List (ℕ × ℕ))) → (ys : List Item) × Cocycles cs ys
+    pub cocycles_some : (cs : List (ℕ × List (ℕ × ℕ))) → (ys : List Item) × Cocycles cs ys
     cocycles_some cs = run_some (IsRunItem p (codes "c") None kinds) (heads (degrees_of cs) (kinds_of cs)) (λ _. Chains cs) (some_run p (codes "c") None kinds) (λ xs a e. chains_some cs)
 
     -- no cycles at all
@@ -77,7 +77,7 @@ module _ (p top : ℕ) (kinds numbers wanted : List ℕ) (K : List (ℕ × List 
         (run_step b p (codes "c") None kinds (degrees_of cs) (kinds_of cs) h.behind (Chains cs) cocycles h.last left refl h.second.run h.second.names
         (run_step b p (codes "h") None kinds numbers wanted h.last (K cs) homotopy rest left refl h.third h.names s))
 
-    behind_head : (b : Bool) (head bytes behind : List ℕ) (left : ℕ) → IsOneLine head → bytes ≡ head ++ behind → StopsAt b Pair behind left → StopsAt b (Section head) bytes left
+    pub behind_head : (b : Bool) (head bytes behind : List ℕ) (left : ℕ) → IsOneLine head → bytes ≡ head ++ behind → StopsAt b Pair behind left → StopsAt b (Section head) bytes left
     behind_head b head bytes behind left o e s =
         at_behind b (Section head) (word_item head ∷ []) Pair bytes head behind left e (ap lines_of e ∙ texts_have_their_lines.first head behind o)
         (reads_line (IsWordItem head) (λ _. Pair) (word_item head) (told_word head) refl) (tt, tt) s
