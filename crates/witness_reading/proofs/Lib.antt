@@ -12,3 +12,4 @@ pub mod Places
 pub mod Sections
 pub mod Leaving
 pub mod Parting
+pub mod Pairs
