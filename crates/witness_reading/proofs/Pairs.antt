@@ -9,7 +9,7 @@ use Rattle.witness_laws.specs.Lines.{Side, domain, range, Line, section, cycle, 
 use Rattle.witness_laws.specs.Inputs.{Given, x_of, a_of, relative_cells}
 use Rattle.witness_laws.specs.Parts.{AreTerms, nth, relative_number}
 use Rattle.witness_laws.specs.Tables.{Tables, PairTables, IsPairTables, pair_of, pair_lines}
-use Rattle.witness_laws.proofs.Runs.{map_each, each_same}
+use Rattle.witness_laws.proofs.Runs.{map_each, each_same, length_singles}
 use Rattle.witness_runs.specs.Runs.{head_of}
 use Rattle.section_reading.specs.Section.{degrees_of, kinds_of}
 use Rattle.witness_reading.proofs.Forms.{Item, Run, AreRun}
@@ -162,3 +162,70 @@ module _ (p : ℕ) (G : Given) (W : Tables) (side : Side) (is : IsPairTables p G
       map_each f (length S.homotopies) (λ i. homotopy side i ∷ [])
       ∙ each_run p (codes "h") None kinds number kind S.homotopies
       ∙ ap (λ (n : ℕ). run_items p (codes "h") None kinds (heads (each n (λ i. number i ∷ [])) (each n (λ i. kind i ∷ []))) S.homotopies) is.cells
+
+  length_cocycles : length cocycle_chains ≡ length cocycle_heads
+  length_cocycles =
+      let a : length cocycle_chains ≡ length flat_cocycles = length-map flat_cocycles (λ (c : ℕ × List (ℕ × ℕ)). c.1) in
+      let b : length (degrees_of flat_cocycles) ≡ length flat_cocycles = length-map flat_cocycles (λ (c : ℕ × List (ℕ × ℕ)). c.0) in
+      let d : length (degrees_of flat_cocycles) ≡ length (degrees_of flat_cycles) = ap length degrees_are in
+      let e : length cocycle_heads ≡ length (degrees_of flat_cycles) = length_heads (degrees_of flat_cycles) (kinds_of flat_cycles) in
+      omega arith
+
+  abbrev chain_heads : List (ℕ × ℕ)
+  chain_heads = heads (cell_numbers G side) (cell_kinds G side)
+
+  length_chains : length S.homotopies ≡ length chain_heads
+  length_chains =
+      let a : length chain_heads ≡ length (cell_numbers G side) = length_heads (cell_numbers G side) (cell_kinds G side) in
+      let b : length (cell_numbers G side) ≡ length (relative_cells (x_of G side) (a_of G side)) =
+      length_singles (length (relative_cells (x_of G side) (a_of G side))) (relative_number (x_of G side) (a_of G side)) in
+      let d = is.cells in omega arith
+
+  module _ (K : List (ℕ × List (ℕ × ℕ)) → List Item → Type 0) (rest : List Item) (allowed : K flat_cycles rest) where
+    chains_form : Chains p G.top kinds (cell_numbers G side) (cell_kinds G side) K flat_cycles (run_items p (codes "h") None kinds chain_heads S.homotopies ++ rest)
+    chains_form = run_of (IsRunItem p (codes "h") None kinds) chain_heads (K flat_cycles) (run_items p (codes "h") None kinds chain_heads S.homotopies) rest
+        (run_are p (codes "h") None kinds chain_heads S.homotopies is.homotopies)
+        (run_length p (codes "h") None kinds chain_heads S.homotopies (let a = length_chains in omega arith) ∙ length_chains) allowed
+
+    cocycles_form : Cocycles p G.top kinds (cell_numbers G side) (cell_kinds G side) K flat_cycles
+        (run_items p (codes "c") None kinds cocycle_heads cocycle_chains ++ (run_items p (codes "h") None kinds chain_heads S.homotopies ++ rest))
+    cocycles_form = run_of (IsRunItem p (codes "c") None kinds) cocycle_heads (Chains p G.top kinds (cell_numbers G side) (cell_kinds G side) K flat_cycles)
+        (run_items p (codes "c") None kinds cocycle_heads cocycle_chains) (run_items p (codes "h") None kinds chain_heads S.homotopies ++ rest)
+        (run_are p (codes "c") None kinds cocycle_heads cocycle_chains
+        (terms_flat p 0 (suc G.top) (in_degree S.cocycles) (λ k i l. is.cocycles k i (let a = is.sizes k in omega arith))))
+        (run_length p (codes "c") None kinds cocycle_heads cocycle_chains (let a = length_cocycles in omega arith) ∙ length_cocycles) chains_form
+
+    pair_form : Pair p G.top kinds (cell_numbers G side) (cell_kinds G side) K
+        (cycle_items kinds flat_cycles ++ (run_items p (codes "c") None kinds cocycle_heads cocycle_chains ++ (run_items p (codes "h") None kinds chain_heads S.homotopies ++ rest)))
+    pair_form = record {
+      cycles = flat_cycles;
+      rest = run_items p (codes "c") None kinds cocycle_heads cocycle_chains ++ (run_items p (codes "h") None kinds chain_heads S.homotopies ++ rest);
+      are = flat_are p 0 G.top G.top (in_degree S.cycles) is.cycles (let q : 0 + G.top ≡ G.top = omega arith in q);
+      is = refl;
+      allowed = cocycles_form;
+    }
+
+    head_is : f (section side) ≡ word_item (head_line side)
+    head_is = by side
+      where
+        by : (s : Side) → item_of_line G W (section s) ≡ word_item (head_line s)
+        by domain = refl
+        by range = refl
+
+    three : (a b c : List Line) → map f (a ++ b ++ c) ++ rest ≡ map f a ++ (map f b ++ (map f c ++ rest))
+    three a b c =
+        ap (λ l. l ++ rest) (map-append f (a ++ b) c ∙ ap (λ l. l ++ map f c) (map-append f a b))
+        ∙ append_assoc (map f a ++ map f b) (map f c) rest ∙ append_assoc (map f a) (map f b) (map f c ++ rest)
+
+    -- the lines of the pair, and what stands behind them
+    pub section_form : Section p G.top kinds (cell_numbers G side) (cell_kinds G side) K (head_line side) (map f (pair_lines side S) ++ rest)
+    section_form =
+        let zs : List Line = each (length S.cycles) (λ k. each (length (in_degree S.cycles k)) (λ i. cycle side k i ∷ [])) in
+        let cs : List Line = each (length S.cycles) (λ k. each (length (in_degree S.cycles k)) (λ i. cocycle side k i ∷ [])) in
+        let hs : List Line = each (length S.homotopies) (λ i. homotopy side i ∷ []) in
+        let e : map f (zs ++ cs ++ hs) ++ rest
+            ≡ cycle_items kinds flat_cycles ++ (run_items p (codes "c") None kinds cocycle_heads cocycle_chains ++ (run_items p (codes "h") None kinds chain_heads S.homotopies ++ rest)) =
+        three zs cs hs ∙ ap (λ l. l ++ (map f cs ++ (map f hs ++ rest))) cycles_items
+        ∙ ap (λ l. cycle_items kinds flat_cycles ++ (l ++ (map f hs ++ rest))) cocycles_items
+        ∙ ap (λ l. cycle_items kinds flat_cycles ++ (run_items p (codes "c") None kinds cocycle_heads cocycle_chains ++ (l ++ rest))) chain_items in
+        (head_is, subst (Pair p G.top kinds (cell_numbers G side) (cell_kinds G side) K) (sym e) pair_form)
