@@ -13,3 +13,4 @@ pub mod Sections
 pub mod Leaving
 pub mod Parting
 pub mod Pairs
+pub mod Degrees
