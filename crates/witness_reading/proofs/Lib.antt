@@ -14,3 +14,4 @@ pub mod Leaving
 pub mod Parting
 pub mod Pairs
 pub mod Degrees
+pub mod PairValues

@@ -121,10 +121,10 @@ module _ (p : ℕ) (G : Given) (W : Tables) (side : Side) (is : IsPairTables p G
   abbrev pub flat_cycles : List (ℕ × List (ℕ × ℕ))
   flat_cycles = flat_from 0 (suc G.top) (in_degree S.cycles)
 
-  abbrev flat_cocycles : List (ℕ × List (ℕ × ℕ))
+  abbrev pub flat_cocycles : List (ℕ × List (ℕ × ℕ))
   flat_cocycles = flat_from 0 (suc G.top) (in_degree S.cocycles)
 
-  abbrev cocycle_chains : List (List (ℕ × ℕ))
+  abbrev pub cocycle_chains : List (List (ℕ × ℕ))
   cocycle_chains = map (λ (c : ℕ × List (ℕ × ℕ)). c.1) flat_cocycles
 
   many : length S.cycles ≡ suc G.top
@@ -142,7 +142,7 @@ module _ (p : ℕ) (G : Given) (W : Tables) (side : Side) (is : IsPairTables p G
   kinds_are : kinds_of flat_cocycles ≡ kinds_of flat_cycles
   kinds_are = kinds_by flat_cocycles ∙ ap (map (λ d. d + 1)) degrees_are ∙ sym (kinds_by flat_cycles)
 
-  abbrev cocycle_heads : List (ℕ × ℕ)
+  abbrev pub cocycle_heads : List (ℕ × ℕ)
   cocycle_heads = heads (degrees_of flat_cycles) (kinds_of flat_cycles)
 
   cocycles_items : map f (each (length S.cycles) (λ k. each (length (in_degree S.cycles k)) (λ i. cocycle side k i ∷ [])))
@@ -171,7 +171,7 @@ module _ (p : ℕ) (G : Given) (W : Tables) (side : Side) (is : IsPairTables p G
       let e : length cocycle_heads ≡ length (degrees_of flat_cycles) = length_heads (degrees_of flat_cycles) (kinds_of flat_cycles) in
       omega arith
 
-  abbrev chain_heads : List (ℕ × ℕ)
+  abbrev pub chain_heads : List (ℕ × ℕ)
   chain_heads = heads (cell_numbers G side) (cell_kinds G side)
 
   length_chains : length S.homotopies ≡ length chain_heads
@@ -218,8 +218,10 @@ module _ (p : ℕ) (G : Given) (W : Tables) (side : Side) (is : IsPairTables p G
         ∙ append_assoc (map f a ++ map f b) (map f c) rest ∙ append_assoc (map f a) (map f b) (map f c ++ rest)
 
     -- the lines of the pair, and what stands behind them
-    pub section_form : Section p G.top kinds (cell_numbers G side) (cell_kinds G side) K (head_line side) (map f (pair_lines side S) ++ rest)
-    section_form =
+    pub pair_items : map f (pair_lines side S) ++ rest
+        ≡ word_item (head_line side) ∷ (cycle_items kinds flat_cycles
+        ++ (run_items p (codes "c") None kinds cocycle_heads cocycle_chains ++ (run_items p (codes "h") None kinds chain_heads S.homotopies ++ rest)))
+    pair_items =
         let zs : List Line = each (length S.cycles) (λ k. each (length (in_degree S.cycles k)) (λ i. cycle side k i ∷ [])) in
         let cs : List Line = each (length S.cycles) (λ k. each (length (in_degree S.cycles k)) (λ i. cocycle side k i ∷ [])) in
         let hs : List Line = each (length S.homotopies) (λ i. homotopy side i ∷ []) in
@@ -228,4 +230,8 @@ module _ (p : ℕ) (G : Given) (W : Tables) (side : Side) (is : IsPairTables p G
         three zs cs hs ∙ ap (λ l. l ++ (map f cs ++ (map f hs ++ rest))) cycles_items
         ∙ ap (λ l. cycle_items kinds flat_cycles ++ (l ++ (map f hs ++ rest))) cocycles_items
         ∙ ap (λ l. cycle_items kinds flat_cycles ++ (run_items p (codes "c") None kinds cocycle_heads cocycle_chains ++ (l ++ rest))) chain_items in
-        (head_is, subst (Pair p G.top kinds (cell_numbers G side) (cell_kinds G side) K) (sym e) pair_form)
+        ap (λ (z : Item). z ∷ (map f (zs ++ cs ++ hs) ++ rest)) head_is ∙ ap (λ (l : List Item). word_item (head_line side) ∷ l) e
+
+    -- they are a section of the form
+    pub section_form : Section p G.top kinds (cell_numbers G side) (cell_kinds G side) K (head_line side) (map f (pair_lines side S) ++ rest)
+    section_form = subst (Section p G.top kinds (cell_numbers G side) (cell_kinds G side) K (head_line side)) (sym pair_items) (refl, pair_form)
