@@ -149,12 +149,16 @@ texts_map : (f : Line → Item) (g : Line → List ℕ) (ls : List Line) → ((l
 texts_map f g [] h = refl
 texts_map f g (l ∷ ls) h = ap (λ (t : List ℕ). t ∷ texts (map f ls)) (h l) ∙ ap (λ (r : List (List ℕ)). g l ∷ r) (texts_map f g ls h)
 
+-- the texts of the items are those of the value
+pub texts_of_items : (p : ℕ) (G : Given) (W : Tables) → texts (items_of G W) ≡ texts_of (tables_format p G) W
+texts_of_items p G W = texts_map (item_of_line G W) (text_of_line G W) (lines_of_tables W) (λ l. refl)
+
 pub tables_form : (p : ℕ) (G : Given) (L : List Item → Type 0) → ((W : Tables) → IsTables p G W → L (items_of G W))
     → ((zs : List Item) → L zs → (W : Tables) × IsTables p G W × (texts_of (tables_format p G) W ≡ texts zs)) → IsForm (tables_format p G) L
 tables_form p G L are value = record {
   items = items_of G;
   are = are;
-  texts_are = λ W f. texts_map (item_of_line G W) (text_of_line G W) (lines_of_tables W) (λ l. refl);
+  texts_are = λ W f. texts_of_items p G W;
   names = λ W i f l h.
       let b : i < length (lines_of_tables W) = let e = length-map (lines_of_tables W) (item_of_line G W) in omega arith in
       law_from_names G W (line_at (tables_format p G) W i) (subst Names (get_or-map (item_of_line G W) (lines_of_tables W) i end no_item b) h);

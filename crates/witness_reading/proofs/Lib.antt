@@ -15,3 +15,4 @@ pub mod Parting
 pub mod Pairs
 pub mod Degrees
 pub mod PairValues
+pub mod PairForm
