@@ -16,3 +16,4 @@ pub mod Pairs
 pub mod Degrees
 pub mod PairValues
 pub mod PairForm
+pub mod PairFaults
