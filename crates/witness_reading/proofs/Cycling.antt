@@ -1,5 +1,5 @@
 -- The lines of cycles as a form: any number of them, and then what does not begin like one.
-use Rattle.std.proofs.Common.{◌≡◌, ℕ, zero, suc, ◌+◌, ◌<◌, ◌≤◌, refl, sym, ap, ◌∙◌, arith, List, [], ◌∷◌, ◌++◌, length, get_or, map, append_assoc, subst}
+use Rattle.std.proofs.Common.{◌≡◌, ℕ, ◌+◌, ◌≤◌, refl, sym, ap, ◌∙◌, arith, List, [], ◌∷◌, ◌++◌, get_or, subst}
 use Rattle.std.specs.Prelude.{codes}
 use Rattle.witness_laws.specs.Lines.{chain_line}
 use Rattle.witness_laws.specs.Parts.{AreTerms}
@@ -7,7 +7,7 @@ use Rattle.witness_laws.proofs.Telling.{lines_tell_their_parts}
 use Rattle.witness_runs.specs.Cycles.{AreCycles, last_degree}
 use Rattle.witness_reading.proofs.Forms.{Item, texts, Names, Reads, reads_none, reads_both}
 use Rattle.witness_reading.proofs.Faults.{BeginAlike}
-use Rattle.witness_reading.proofs.Stops.{StopsText, StopsCell, BeginsWith}
+use Rattle.witness_reading.proofs.Stops.{StopsText, StopsCell}
 use Rattle.witness_reading.proofs.Shapes.{chain_item}
 
 abbrev pub cycle_item : List ℕ → ℕ × List (ℕ × ℕ) → Item
@@ -56,14 +56,17 @@ module _ (p top : ℕ) (kinds : List ℕ) where
     step_goes o [] rest zs more a s k e = absurd (o [] rest k (subst FirstIsZ (sym e ∙ ap texts s) refl))
     step_goes o (d ∷ ds) rest zs more a s k e =
         let q : ◌≡◌ {A = ℕ × List (ℕ × ℕ)} d c = told_cycle d c (ap (λ l. get_or l 0 []) (sym (ap texts s) ∙ e)) in
-        let ys : List Item = cycle_items kinds ds ++ rest in
-        (ys, s ∙ ap (λ (x : ℕ × List (ℕ × ℕ)). cycle_item kinds x ∷ ys) q, record {
-          cycles = ds;
-          rest = rest;
-          are = subst (λ (x : ℕ × List (ℕ × ℕ)). AreCycles p x.0 top ds) q a.2;
-          is = refl;
-          allowed = subst (λ (x : ℕ × List (ℕ × ℕ)). K (x ∷ ds) rest) q k;
-        })
+        let ys : List Item = cycle_items kinds ds ++ rest in (
+          ys,
+          s ∙ ap (λ (x : ℕ × List (ℕ × ℕ)). cycle_item kinds x ∷ ys) q,
+          record {
+            cycles = ds;
+            rest = rest;
+            are = subst (λ (x : ℕ × List (ℕ × ℕ)). AreCycles p x.0 top ds) q a.2;
+            is = refl;
+            allowed = subst (λ (x : ℕ × List (ℕ × ℕ)). K (x ∷ ds) rest) q k;
+          },
+        )
 
     pub reads_cycle : IsOver K → low ≤ c.0 → AreTerms p 0 c.1 → Reads (Cycles p top kinds low K) (cycle_item kinds c ∷ []) Further
     reads_cycle o l t = record {

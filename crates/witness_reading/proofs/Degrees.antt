@@ -1,17 +1,17 @@
 -- Lists by degree that are made of lists beside their degrees; and the chains of a run of the form.
-use Rattle.std.proofs.Common.{◌≡◌, ◌≢◌, ℕ, zero, suc, ◌+◌, ◌<◌, ◌≤◌, refl, sym, ap, ◌∙◌, arith, ⊎_elim, List, [], ◌∷◌, ◌++◌, length, get_or, map, Bool, true, false, cond, subst, Option}
+use Rattle.std.proofs.Common.{◌≡◌, ℕ, zero, suc, ◌<◌, ◌≤◌, refl, sym, ap, ◌∙◌, arith, ⊎_elim, List, [], ◌∷◌, ◌++◌, length, get_or, map, cond, subst, Option}
 use Rattle.std.proofs.lemmas.Bool.{cases_Bool}
 use Rattle.std.specs.Prelude.{◌==◌}
 use Rattle.witness_laws.specs.Lines.{each}
 use Rattle.witness_laws.specs.Parts.{AreTerms, nth}
-use Rattle.witness_types.specs.Parts.{beside, by_degree}
+use Rattle.witness_types.specs.Parts.{beside}
 use Rattle.witness_runs.specs.Runs.{head_of}
 use Rattle.witness_runs.specs.Cycles.{AreCycles}
 use Rattle.section_reading.specs.Section.{degrees_of}
 use Rattle.witness_reading.proofs.Forms.{Item, Run}
 use Rattle.witness_reading.proofs.Shapes.{chain_item}
 use Rattle.witness_reading.proofs.Runs.{IsRunItem, run_items}
-use Rattle.witness_reading.proofs.Flat.{flat_from, flat_beside, Rising, zipped}
+use Rattle.witness_reading.proofs.Flat.{Rising, zipped}
 
 -- ---- lists by degree
 

@@ -1,7 +1,7 @@
 -- The first failing line, from what a form allows behind the lines that were read.
-use Rattle.std.proofs.Common.{◌≡◌, ℕ, zero, suc, ◌+◌, ◌<◌, refl, sym, ap, ◌∙◌, arith, List, [], ◌∷◌, ◌++◌, length, get_or, map, take, append_assoc, subst}
-use Rattle.std.proofs.lemmas.List.{map-append, length-map, length-append, append-nil, get_or_append_left}
-use Rattle.witness_laws.specs.Formats.{Format, texts_of, line_at, HasValue, AreFirstOf, AreFirst, IsTextFault, IsCellFault, MeetsFirst}
+use Rattle.std.proofs.Common.{◌≡◌, ℕ, zero, suc, ◌+◌, ◌<◌, refl, sym, ap, ◌∙◌, arith, List, [], ◌∷◌, ◌++◌, length, get_or, take, append_assoc, subst}
+use Rattle.std.proofs.lemmas.List.{map-append, length-map, length-append, get_or_append_left}
+use Rattle.witness_laws.specs.Formats.{Format, texts_of, line_at, AreFirstOf, AreFirst, IsTextFault, IsCellFault, MeetsFirst}
 use Rattle.witness_reading.proofs.Forms.{Item, no_item, texts, Names, Reads, behind}
 
 -- the lists of lines of the values of a format are those of the form
@@ -87,9 +87,9 @@ module _ {V : Type 0} (F : Format V) (L : List Item → Type 0) (form : IsForm F
       here (u ∷ us) e l a =
           let v : V = a.value in
           let f : texts_of F v ≡ texts xs ++ (u ∷ a.are.more) = a.are.lines
-              ∙ ap (λ t. take (suc k) t ++ a.are.more) (split ∙ ap (λ t. texts xs ++ t) (sym e))
-              ∙ ap (λ t. t ++ a.are.more) (front_next (texts xs) u us k many_texts)
-              ∙ append_assoc (texts xs) (u ∷ []) a.are.more in
+          ∙ ap (λ t. take (suc k) t ++ a.are.more) (split ∙ ap (λ t. texts xs ++ t) (sym e))
+          ∙ ap (λ t. t ++ a.are.more) (front_next (texts xs) u us k many_texts)
+          ∙ append_assoc (texts xs) (u ∷ []) a.are.more in
           none v (u ∷ a.are.more) a.are.fits f (subst (BeginAlike (u ∷ a.are.more)) e refl)
 
       pub text_fault : IsTextFault F ts k
@@ -109,8 +109,14 @@ module _ {V : Type 0} (F : Format V) (L : List Item → Type 0) (form : IsForm F
     before : AreFirst F (texts xs ++ z.text ∷ [])
     before =
         let w = form.value (xs ++ (z ∷ ys)) (r.sound (z ∷ ys) (s.sound ys m)) in
-        record { value = w.0; are = record { fits = w.1; more = texts ys;
-            lines = w.2 ∙ map-append (λ (x : Item). x.text) xs (z ∷ ys) ∙ sym (append_assoc (texts xs) (z.text ∷ []) (texts ys)) } }
+        record {
+          value = w.0;
+          are = record {
+            fits = w.1;
+            more = texts ys;
+            lines = w.2 ∙ map-append (λ (x : Item). x.text) xs (z ∷ ys) ∙ sym (append_assoc (texts xs) (z.text ∷ []) (texts ys));
+          };
+        }
 
     not_here : (v : V) → AreFirstOf F (take (suc k) ts) v → F.first v (line_at F v k) → ⊥
     not_here v a h =

@@ -1,5 +1,5 @@
 -- Forms of lists of lines, and what a form allows behind the lines that were read.
-use Rattle.std.proofs.Common.{◌≡◌, ℕ, zero, suc, refl, sym, ap, ◌∙◌, List, [], ◌∷◌, ◌++◌, length, get_or, map, drop, append_assoc, subst}
+use Rattle.std.proofs.Common.{◌≡◌, ℕ, suc, refl, sym, ap, ◌∙◌, List, [], ◌∷◌, ◌++◌, length, get_or, map, drop, append_assoc, subst}
 use Rattle.std.proofs.lemmas.List.{map-append, append_cancel_left}
 use Rattle.witness_runs.specs.Kinds.{NamesKind}
 
@@ -42,7 +42,7 @@ reads_both L xs M ys N r s = record {
   sound = λ zs n. subst L (sym (append_assoc xs ys zs)) (r.sound (ys ++ zs) (s.sound zs n));
   goes = λ zs more l e.
       let f : texts zs ≡ texts xs ++ (texts ys ++ more) = e ∙ ap (λ t. t ++ more) (map-append (λ (z : Item). z.text) xs ys)
-          ∙ append_assoc (texts xs) (texts ys) more in
+      ∙ append_assoc (texts xs) (texts ys) more in
       let w = r.goes zs (texts ys ++ more) l f in
       let v = s.goes w.0 more w.2 (behind zs xs w.0 (texts ys ++ more) w.1 f) in
       (v.0, w.1 ∙ ap (λ t. xs ++ t) v.1 ∙ sym (append_assoc xs ys v.0), v.2);

@@ -1,5 +1,5 @@
 -- The lines of a value of version 1 as items: their texts, and what they are to name.
-use Rattle.std.proofs.Common.{◌≡◌, ℕ, zero, suc, ◌+◌, ◌<◌, refl, sym, ap, ◌∙◌, arith, List, [], ◌∷◌, length, get_or, map, Bool, true, subst}
+use Rattle.std.proofs.Common.{◌≡◌, ℕ, suc, ◌+◌, ◌<◌, refl, sym, ap, ◌∙◌, arith, List, [], ◌∷◌, length, get_or, map, Bool, true, subst}
 use Rattle.std.proofs.lemmas.List.{length-map, get_or-map}
 use Rattle.std.specs.List.{Contains}
 use Rattle.elem_cubes.specs.Cells.{Factor, dimension_of}
@@ -8,9 +8,9 @@ use Rattle.cell_complex.specs.RelativeComplex.{is_relative}
 use Rattle.homology_basis.specs.Bases.{in_degree}
 use Rattle.map_checks.specs.Faults.{together}
 use Rattle.acyclic_values.specs.Values.{in_value}
-use Rattle.witness_laws.specs.Lines.{Side, Line, domain, range, section, cycle, cocycle, homotopy, values, vertex, filling, image as image_line, matrix, row, end}
-use Rattle.witness_laws.specs.Formats.{Format, texts_of, line_at}
-use Rattle.witness_laws.specs.Inputs.{Given, Target, target_of, x_of, a_of, all_cells, relative_cells}
+use Rattle.witness_laws.specs.Lines.{Side, Line, section, cycle, cocycle, homotopy, values, vertex, filling, image as image_line, matrix, row, end}
+use Rattle.witness_laws.specs.Formats.{texts_of, line_at}
+use Rattle.witness_laws.specs.Inputs.{Given, target_of, x_of, a_of, all_cells, relative_cells}
 use Rattle.witness_laws.specs.Parts.{NameCells, nth, cell_of, value_at, range_cells}
 use Rattle.witness_laws.specs.Tables.{Tables, IsTables, pair_of, map_of, lines_of_tables, text_of_line, tables_format, names_cells as law_of_line}
 use Rattle.witness_runs.specs.Kinds.{NamesKind}

@@ -1,5 +1,5 @@
 -- Where the bytes leave runs and cycles, by the law that fails.
-use Rattle.std.proofs.Common.{◌≡◌, ℕ, zero, suc, ◌+◌, ◌<◌, ◌≤◌, refl, sym, ap, ◌∙◌, arith, ⊎_elim, List, [], ◌∷◌, ◌++◌, length, get_or, map, Bool, true, false, cond, subst, Option}
+use Rattle.std.proofs.Common.{◌≡◌, ℕ, ◌≤◌, refl, sym, ap, ◌∙◌, arith, ⊎_elim, List, [], ◌∷◌, ◌++◌, length, get_or, Bool, true, false, cond, subst, Option}
 use Rattle.std.proofs.lemmas.Bool.{cases_Bool}
 use Rattle.std.specs.Prelude.{codes, ◌==◌}
 use Rattle.witness_laws.specs.declared.law.Law.{Law}
@@ -16,8 +16,8 @@ use Rattle.witness_reading.proofs.Faults.{BeginAlike}
 use Rattle.witness_reading.proofs.Stops.{StopsText, StopsCell, BeginsWith}
 use Rattle.witness_reading.proofs.Shapes.{in_front}
 use Rattle.witness_reading.proofs.Runs.{one_chain, heads, IsRunItem}
-use Rattle.witness_reading.proofs.Cycling.{cycle_item, cycle_items, Cycles, FirstIsZ, IsOver, reads_cycles, cell_cycle}
-use Rattle.witness_reading.proofs.Places.{Stops, StopsAt, at_here, at_behind, run_text_at, run_cell_at, cycles_lines, cycles_names}
+use Rattle.witness_reading.proofs.Cycling.{cycle_items, Cycles, FirstIsZ, IsOver, reads_cycles, cell_cycle}
+use Rattle.witness_reading.proofs.Places.{StopsAt, at_here, at_behind, run_text_at, run_cell_at, cycles_lines, cycles_names}
 
 -- the bytes leave the form where so many are left, by a law of the first pass
 abbrev pub Leaves : (List Item → Type 0) → List ℕ → ℕ → Law → Type 0
@@ -90,7 +90,7 @@ module _ (p top : ℕ) (kinds : List ℕ) where
     refuses z n (c ∷ cs) last zs more a i k e h =
         let t : List ℕ = chain_line (codes "z") (c.0 ∷ []) c.1 in
         let g : BeginsWith t (lines_of rest) = first_alike t (texts (cycle_items kinds cs ++ last)) (lines_of rest)
-            (subst (λ (l : List (List ℕ)). BeginAlike l (lines_of rest)) (sym e ∙ ap texts i) h) in
+        (subst (λ (l : List (List ℕ)). BeginAlike l (lines_of rest)) (sym e ∙ ap texts i) h) in
         let w = in_front rest t g in
         n c.0 a.0 (low_high c.0 top cs a.2) c.1 w.0 a.1 w.1
       where

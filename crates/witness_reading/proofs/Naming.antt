@@ -1,5 +1,5 @@
 -- Terms name cells as the law of the first pass says where they name cells of a kind, by the table of kinds.
-use Rattle.std.proofs.Common.{◌≡◌, ℕ, zero, suc, ◌+◌, ◌-◌, ◌<◌, ◌≤◌, refl, sym, ap, ◌∙◌, arith, ⊎_elim, List, [], ◌∷◌, length, get_or, map, Bool, true, cond, subst}
+use Rattle.std.proofs.Common.{◌≡◌, ℕ, suc, ◌-◌, ◌<◌, ◌≤◌, sym, ap, ◌∙◌, arith, ⊎_elim, List, [], ◌∷◌, length, get_or, Bool, true, cond}
 use Rattle.std.proofs.lemmas.Bool.{cases_Bool}
 use Rattle.std.proofs.lemmas.List.{length-map, get_or-map}
 use Rattle.std.proofs.lemmas.List.Elements.{Contains-get_or}
@@ -10,7 +10,7 @@ use Rattle.elem_cubes.specs.Laws.{cell_at}
 use Rattle.elem_cubes.proofs.Members.{from-In, In-from}
 use Rattle.acyclic_values.proofs.Cells.{filter_In, In_filter}
 use Rattle.witness_laws.specs.Parts.{NameCells}
-use Rattle.witness_runs.specs.Kinds.{IsOfKind, NamesKind}
+use Rattle.witness_runs.specs.Kinds.{NamesKind}
 use Rattle.witness_reading.specs.Kinds.{kinds_where}
 
 module _ (on : List Factor → Bool) (cells : List (List Factor)) where

@@ -1,17 +1,16 @@
 -- The first failing line of a witness of a pair, from where its bytes leave the form.
-use Rattle.std.proofs.Common.{◌≡◌, ℕ, zero, suc, ◌+◌, refl, sym, ap, ◌∙◌, arith, ⊎_elim, List, [], ◌∷◌, ◌++◌, length, Bool, true, false, cond, subst, None}
+use Rattle.std.proofs.Common.{◌≡◌, ℕ, ◌+◌, refl, sym, ap, ◌∙◌, ⊎_elim, List, [], ◌∷◌, ◌++◌, length, true, cond, subst, None}
 use Rattle.std.proofs.lemmas.Bool.{cases_Bool}
-use Rattle.std.proofs.lemmas.List.{append-nil}
 use Rattle.std.specs.Prelude.{codes, ◌==◌}
 use Rattle.witness_laws.specs.declared.law.Law.{Law}
 use Rattle.witness_laws.specs.declared.law.Law.TheVariants as laws
-use Rattle.witness_laws.specs.Lines.{domain, lines_of, lines_behind}
+use Rattle.witness_laws.specs.Lines.{lines_of, lines_behind}
 use Rattle.witness_laws.specs.Formats.{Format, IsFirstFault}
 use Rattle.witness_laws.specs.Inputs.{Given}
 use Rattle.witness_laws.specs.Tables.{tables_format}
 use Rattle.witness_laws.proofs.Texts.{texts_have_their_lines}
 use Rattle.witness_scanning.specs.Fronts.{BeginsOtherwise}
-use Rattle.witness_reading.proofs.Forms.{Item, Reads, reads_line}
+use Rattle.witness_reading.proofs.Forms.{Item, reads_line}
 use Rattle.witness_reading.proofs.Faults.{IsForm}
 use Rattle.witness_reading.proofs.Stops.{StopsText, Nothing, text_here, text_over, text_stop, cell_stop}
 use Rattle.witness_reading.proofs.Shapes.{word_item, IsWordItem, told_word, no_word_here}
@@ -33,11 +32,21 @@ pub record IsCounted {V : Type 0} (F : Format V) (bytes : List ℕ) (left : ℕ)
 module _ {V : Type 0} (F : Format V) (L : List Item → Type 0) (form : IsForm F L) (bytes : List ℕ) (left : ℕ) where
   pub counted : (law : Law) → Leaves L bytes left law → IsCounted F bytes left law
   counted laws.Text s = record {
-    line = s.line; front = s.front; here = s.here; split = s.split; left_is = s.left_is; count = s.count;
+    line = s.line;
+    front = s.front;
+    here = s.here;
+    split = s.split;
+    left_is = s.left_is;
+    count = s.count;
     fault = text_stop F L form (lines_of bytes) s.line s.stop;
   }
   counted laws.Cell s = record {
-    line = s.line; front = s.front; here = s.here; split = s.split; left_is = s.left_is; count = s.count;
+    line = s.line;
+    front = s.front;
+    here = s.here;
+    split = s.split;
+    left_is = s.left_is;
+    count = s.count;
     fault = cell_stop F L form (lines_of bytes) s.line s.stop;
   }
   counted laws.Header s = absurd s

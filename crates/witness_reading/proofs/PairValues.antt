@@ -2,10 +2,8 @@
 use Rattle.std.proofs.Common.{◌≡◌, ℕ, zero, suc, ◌+◌, ◌<◌, ◌≤◌, refl, sym, ap, ◌∙◌, arith, ⊎_elim, List, [], ◌∷◌, ◌++◌, length, map, subst}
 use Rattle.std.proofs.lemmas.List.{length-map}
 use Rattle.std.proofs.lemmas.Bool.{cases_lt}
-use Rattle.std.specs.Prelude.{codes}
 use Rattle.elem_cubes.specs.Cells.{Factor}
 use Rattle.homology_basis.specs.Bases.{in_degree}
-use Rattle.witness_laws.specs.Lines.{each}
 use Rattle.witness_laws.specs.Inputs.{relative_cells}
 use Rattle.witness_laws.specs.Parts.{AreTerms, nth}
 use Rattle.witness_laws.specs.Tables.{PairTables, IsPairTables}

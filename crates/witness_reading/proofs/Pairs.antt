@@ -1,8 +1,8 @@
 -- The lines of a pair in a value of version 1 are a section of the form.
-use Rattle.std.proofs.Common.{◌≡◌, ℕ, zero, suc, ◌+◌, ◌<◌, ◌≤◌, refl, sym, ap, ◌∙◌, arith, List, [], ◌∷◌, ◌++◌, length, get_or, map, append_assoc, subst, Option, None, Some}
+use Rattle.std.proofs.Common.{◌≡◌, ℕ, zero, suc, ◌+◌, ◌<◌, refl, sym, ap, ◌∙◌, arith, List, [], ◌∷◌, ◌++◌, length, map, append_assoc, subst, Option, None}
 use Rattle.std.proofs.lemmas.List.{map-append, length-map}
 use Rattle.std.specs.Prelude.{codes}
-use Rattle.elem_cubes.specs.Cells.{Factor, dimension_of}
+use Rattle.elem_cubes.specs.Cells.{dimension_of}
 use Rattle.elem_cubes.specs.Laws.{cell_at}
 use Rattle.homology_basis.specs.Bases.{in_degree}
 use Rattle.witness_laws.specs.Lines.{Side, domain, range, Line, section, cycle, cocycle, homotopy, each}
@@ -15,7 +15,7 @@ use Rattle.section_reading.specs.Section.{degrees_of, kinds_of}
 use Rattle.witness_reading.proofs.Forms.{Item, Run, AreRun}
 use Rattle.witness_reading.proofs.Shapes.{chain_item, word_item}
 use Rattle.witness_reading.proofs.Runs.{heads, length_heads, IsRunItem, run_items, run_length, run_are}
-use Rattle.witness_reading.proofs.Cycling.{cycle_item, cycle_items, Cycles}
+use Rattle.witness_reading.proofs.Cycling.{cycle_item, cycle_items}
 use Rattle.witness_reading.proofs.Flat.{flat_from, each_of_list, each_flat, flat_are}
 use Rattle.witness_reading.proofs.Items.{pair_kinds, item_of_line}
 use Rattle.witness_reading.proofs.Sections.{Chains, Cocycles, Pair, Section}
@@ -226,7 +226,7 @@ module _ (p : ℕ) (G : Given) (W : Tables) (side : Side) (is : IsPairTables p G
         let cs : List Line = each (length S.cycles) (λ k. each (length (in_degree S.cycles k)) (λ i. cocycle side k i ∷ [])) in
         let hs : List Line = each (length S.homotopies) (λ i. homotopy side i ∷ []) in
         let e : map f (zs ++ cs ++ hs) ++ rest
-            ≡ cycle_items kinds flat_cycles ++ (run_items p (codes "c") None kinds cocycle_heads cocycle_chains ++ (run_items p (codes "h") None kinds chain_heads S.homotopies ++ rest)) =
+        ≡ cycle_items kinds flat_cycles ++ (run_items p (codes "c") None kinds cocycle_heads cocycle_chains ++ (run_items p (codes "h") None kinds chain_heads S.homotopies ++ rest)) =
         three zs cs hs ∙ ap (λ l. l ++ (map f cs ++ (map f hs ++ rest))) cycles_items
         ∙ ap (λ l. cycle_items kinds flat_cycles ++ (l ++ (map f hs ++ rest))) cocycles_items
         ∙ ap (λ l. cycle_items kinds flat_cycles ++ (run_items p (codes "c") None kinds cocycle_heads cocycle_chains ++ (l ++ rest))) chain_items in

@@ -1,5 +1,5 @@
 -- Where the bytes leave the section of a pair, or the lines of a cell.
-use Rattle.std.proofs.Common.{◌≡◌, ◌⊎◌, ℕ, suc, ◌+◌, ◌<◌, ◌≤◌, inl, inr, refl, sym, ap, ◌∙◌, arith, ⊎_elim, List, [], ◌∷◌, ◌++◌, length, get_or, Bool, true, false, subst, Option, None, Some}
+use Rattle.std.proofs.Common.{◌≡◌, ℕ, refl, sym, ap, ◌∙◌, ⊎_elim, List, [], ◌∷◌, length, Bool, true, false, subst, None, Some}
 use Rattle.std.proofs.lemmas.Bool.{true≢false}
 use Rattle.std.specs.Prelude.{codes}
 use Rattle.witness_laws.specs.declared.law.Law.{Law}
@@ -11,15 +11,15 @@ use Rattle.witness_runs.specs.declared.miss.Miss.TheVariants as misses
 use Rattle.witness_runs.specs.declared.miss.Stop.{Stop}
 use Rattle.witness_runs.specs.declared.miss.Stop.TheVariants as stops
 use Rattle.witness_runs.specs.Misses.{stop_at}
-use Rattle.witness_runs.specs.Due.{IsDueChain, IsOtherChain, MissesChain, IsDueVertex, IsOtherVertex, MissesVertex}
+use Rattle.witness_runs.specs.Due.{IsOtherChain, MissesChain, IsDueVertex, IsOtherVertex, MissesVertex}
 use Rattle.section_reading.specs.Section.{degrees_of, kinds_of, StopsAtHead, StopsBehindHead, StopsInCocycles, StopsInChains, StopsPair, StopsSection}
-use Rattle.section_reading.specs.Cell.{HasValue, HasCell, StopsAtVertex, StopsInValue, StopsAtImage, StopsCell as CellStops}
-use Rattle.witness_reading.proofs.Forms.{Item, texts, Names, Reads, reads_line, Then, Run, run_some}
-use Rattle.witness_reading.proofs.Stops.{StopsText, StopsCell, text_here, cell_here}
+use Rattle.section_reading.specs.Cell.{HasValue, HasCell, StopsInValue, StopsCell as CellStops}
+use Rattle.witness_reading.proofs.Forms.{Item, reads_line, Then, Run, run_some}
+use Rattle.witness_reading.proofs.Stops.{StopsCell, text_here, cell_here}
 use Rattle.witness_reading.proofs.Shapes.{word_item, chain_item, vertex_item, IsWordItem, IsChainItem, IsVertexItem, told_chain, told_vertex, no_word_here, no_chain_here, no_vertex_here}
 use Rattle.witness_reading.proofs.Runs.{one_chain, one_numbers, heads, IsRunItem, some_run}
 use Rattle.witness_reading.proofs.Cycling.{IsOver}
-use Rattle.witness_reading.proofs.Places.{Stops, StopsAt, at_here, at_behind, run_step, cycles_step}
+use Rattle.witness_reading.proofs.Places.{StopsAt, at_here, at_behind, run_step, cycles_step}
 use Rattle.witness_reading.proofs.Sections.{Chains, Cocycles, Pair, Section, pair_over, chains_some, cocycles_some, pair_some, behind_head}
 use Rattle.witness_reading.proofs.Leaving.{Leaves, leaves_step, run_leaves, cycles_leaves}
 

@@ -1,18 +1,17 @@
 -- Where the bytes of a text leave a form: how many are left, and which line that is.
-use Rattle.std.proofs.Common.{◌≡◌, ℕ, zero, suc, ◌+◌, ◌<◌, ◌≤◌, refl, sym, ap, ◌∙◌, arith, List, [], ◌∷◌, ◌++◌, length, get_or, map, Bool, true, false, append_assoc, subst, Option}
+use Rattle.std.proofs.Common.{◌≡◌, ℕ, ◌+◌, ◌≤◌, refl, sym, ap, ◌∙◌, arith, List, [], ◌∷◌, ◌++◌, length, get_or, Bool, true, false, append_assoc, subst, Option}
 use Rattle.std.proofs.lemmas.List.{length-append, length-map, append-nil}
 use Rattle.std.specs.Prelude.{codes}
 use Rattle.witness_laws.specs.Lines.{chain_line, lines_of, no_feed}
-use Rattle.witness_laws.specs.Parts.{AreTerms}
 use Rattle.witness_runs.specs.declared.miss.Miss.TheVariants as misses
-use Rattle.witness_runs.specs.Runs.{head_of, run_text, HasRun, NameKinds, StopsAt as RunStopsAt}
-use Rattle.witness_runs.specs.Cycles.{BeginsWithZ, cycles_text, AreCycles, NameDegrees, last_degree, AreCyclesAt}
-use Rattle.witness_reading.proofs.Forms.{Item, texts, Reads, Then, Run}
+use Rattle.witness_runs.specs.Runs.{run_text, HasRun, NameKinds, StopsAt as RunStopsAt}
+use Rattle.witness_runs.specs.Cycles.{BeginsWithZ, cycles_text, NameDegrees, last_degree, AreCyclesAt}
+use Rattle.witness_reading.proofs.Forms.{Item, texts, Reads, Run}
 use Rattle.witness_reading.proofs.Stops.{AllNames, StopsText, StopsCell, text_behind, cell_behind, BeginsWith}
-use Rattle.witness_reading.proofs.Shapes.{in_front, chain_item}
+use Rattle.witness_reading.proofs.Shapes.{in_front}
 use Rattle.witness_reading.proofs.Runs.{one_chain, first_line, heads, IsRunItem}
-use Rattle.witness_reading.proofs.Running.{Due, items, run_many, run_reads, run_all, run_split, run_count, run_whole, run_stops_text, run_stops_cell}
-use Rattle.witness_reading.proofs.Cycling.{cycle_item, cycle_items, Cycles, FirstIsZ, IsOver, reads_cycles, text_leave, cell_leave}
+use Rattle.witness_reading.proofs.Running.{items, run_all, run_split, run_count, run_whole, run_stops_text, run_stops_cell}
+use Rattle.witness_reading.proofs.Cycling.{cycle_items, Cycles, FirstIsZ, IsOver, reads_cycles, text_leave, cell_leave}
 
 -- a line that may not stand there, or one that names other cells
 abbrev pub Stops : Bool → (List Item → Type 0) → List (List ℕ) → ℕ → Type 0

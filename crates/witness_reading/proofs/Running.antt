@@ -1,12 +1,12 @@
 -- A run that was read, or that stops, as lines of a form.
-use Rattle.std.proofs.Common.{◌≡◌, ℕ, zero, suc, ◌+◌, ◌<◌, ◌≤◌, refl, sym, ap, ◌∙◌, arith, List, [], ◌∷◌, ◌++◌, length, get_or, map, drop, true, subst, Option}
+use Rattle.std.proofs.Common.{◌≡◌, ℕ, suc, ◌+◌, ◌<◌, ◌≤◌, refl, sym, ap, ◌∙◌, arith, List, [], ◌∷◌, ◌++◌, length, get_or, drop, true, subst, Option}
 use Rattle.std.proofs.lemmas.List.{length-append, length-map, append-nil, drop_all}
 use Rattle.witness_laws.specs.Lines.{chain_line, lines_of, no_feed}
 use Rattle.witness_laws.proofs.Texts.{texts_have_their_lines}
 use Rattle.witness_scanning.specs.Lines.{HasNoChainLine}
 use Rattle.witness_runs.specs.Due.{IsOtherChain}
 use Rattle.witness_runs.specs.Runs.{head_of, HasRun, NameKinds}
-use Rattle.witness_reading.proofs.Forms.{Item, texts, Reads, Then, Run, AreRun, reads_run, run_some}
+use Rattle.witness_reading.proofs.Forms.{Item, texts, Reads, Then, Run, reads_run, run_some}
 use Rattle.witness_reading.proofs.Stops.{AllNames, StopsText, StopsCell, text_behind, cell_behind, text_here, cell_here}
 use Rattle.witness_reading.proofs.Shapes.{chain_item, no_chain_here, told_chain}
 use Rattle.witness_reading.proofs.Runs.{one_chain, heads, length_heads, drop_heads, IsRunItem, told_run, some_run, run_items, run_length, run_are, run_names, run_lines}

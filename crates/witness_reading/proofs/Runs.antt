@@ -1,12 +1,12 @@
 -- Runs of lines that were read, as items of a form.
-use Rattle.std.proofs.Common.{◌≡◌, ℕ, zero, suc, ◌+◌, ◌<◌, ◌≤◌, refl, sym, ap, ◌∙◌, arith, List, [], ◌∷◌, ◌++◌, length, get_or, map, drop, true, append_assoc, subst, Option}
+use Rattle.std.proofs.Common.{◌≡◌, ℕ, zero, suc, ◌<◌, ◌≤◌, refl, ap, ◌∙◌, arith, List, [], ◌∷◌, ◌++◌, length, get_or, drop, true, append_assoc, Option}
 use Rattle.std.specs.Prelude.{codes}
 use Rattle.witness_laws.specs.Lines.{numeral, numbers_text, chain_text, chain_line, numbers_line, row_line, lines_of, no_feed, IsOneLine}
 use Rattle.witness_laws.specs.Parts.{AreTerms, nth}
 use Rattle.witness_laws.proofs.Texts.{feed_append, feed_numeral, texts_have_their_lines}
 use Rattle.witness_runs.specs.Kinds.{NamesKind}
 use Rattle.witness_runs.specs.Runs.{head_of, run_text}
-use Rattle.witness_reading.proofs.Forms.{Item, texts, Run, AreRun, IsTold}
+use Rattle.witness_reading.proofs.Forms.{Item, texts, AreRun, IsTold}
 use Rattle.witness_reading.proofs.Stops.{AllNames}
 use Rattle.witness_reading.proofs.Shapes.{chain_item, IsChainItem, told_chain}
 

@@ -1,25 +1,14 @@
 -- The section of a pair as a form, and where the bytes leave it.
-use Rattle.std.proofs.Common.{◌≡◌, ◌⊎◌, ℕ, zero, suc, ◌+◌, ◌<◌, ◌≤◌, inl, inr, refl, sym, ap, ◌∙◌, arith, ⊎_elim, List, [], ◌∷◌, ◌++◌, length, get_or, map, Bool, true, false, append_assoc, subst, Option, None, Some}
-use Rattle.std.proofs.lemmas.List.{length-append, length-map, append-nil}
+use Rattle.std.proofs.Common.{◌≡◌, ℕ, ◌≤◌, refl, sym, ap, ◌∙◌, arith, List, [], ◌∷◌, ◌++◌, get_or, Bool, Option, None}
 use Rattle.std.specs.Prelude.{codes}
-use Rattle.witness_laws.specs.declared.law.Law.{Law}
-use Rattle.witness_laws.specs.declared.law.Law.TheVariants as laws
-use Rattle.witness_laws.specs.Lines.{chain_line, lines_of, no_feed, IsOneLine}
+use Rattle.witness_laws.specs.Lines.{chain_line, lines_of, IsOneLine}
 use Rattle.witness_laws.proofs.Texts.{texts_have_their_lines}
-use Rattle.witness_scanning.specs.Fronts.{BeginsOtherwise}
-use Rattle.witness_runs.specs.declared.miss.Miss.TheVariants as misses
-use Rattle.witness_runs.specs.declared.miss.Stop.{Stop}
-use Rattle.witness_runs.specs.declared.miss.Stop.TheVariants as stops
-use Rattle.witness_runs.specs.Cycles.{BeginsWithZ, cycles_text, AreCycles, last_degree, HasCycles, StopsCycles, StopsAt as CyclesStopAt}
-use Rattle.witness_runs.specs.Runs.{StopsRun}
-use Rattle.section_reading.specs.Section.{degrees_of, kinds_of, HasCocycles, HasPair, HasSection, StopsInCocycles, StopsInChains, StopsPair, StopsSection}
-use Rattle.witness_reading.proofs.Forms.{Item, texts, Names, Reads, reads_line, Then, Run, run_some}
-use Rattle.witness_reading.proofs.Faults.{BeginAlike}
-use Rattle.witness_reading.proofs.Stops.{AllNames, StopsText, StopsCell, BeginsWith, text_here}
-use Rattle.witness_reading.proofs.Shapes.{in_front, word_item, chain_item, IsWordItem, told_word, no_word_here}
-use Rattle.witness_reading.proofs.Runs.{one_chain, heads, IsRunItem, some_run}
-use Rattle.witness_reading.proofs.Cycling.{cycle_item, cycle_items, Cycles, FirstIsZ, IsOver, reads_cycles, cell_cycle}
-use Rattle.witness_reading.proofs.Places.{Stops, StopsAt, at_here, at_behind, run_step, run_text_at, run_cell_at, cycles_lines, cycles_names, begins_z, cycles_step}
+use Rattle.section_reading.specs.Section.{degrees_of, kinds_of, HasPair, HasSection}
+use Rattle.witness_reading.proofs.Forms.{Item, texts, reads_line, Then, Run, run_some}
+use Rattle.witness_reading.proofs.Shapes.{word_item, IsWordItem, told_word}
+use Rattle.witness_reading.proofs.Runs.{heads, IsRunItem, some_run}
+use Rattle.witness_reading.proofs.Cycling.{Cycles, FirstIsZ, IsOver}
+use Rattle.witness_reading.proofs.Places.{StopsAt, at_behind, run_step, cycles_step}
 
 -- ---- runs that do not begin like a cycle
 

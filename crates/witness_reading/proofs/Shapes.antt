@@ -1,16 +1,15 @@
 -- The lines of a witness file as items: what each may be, and that its text tells it.
-use Rattle.std.proofs.Common.{◌≡◌, ℕ, zero, suc, ◌+◌, ◌<◌, ◌≤◌, refl, sym, ap, ◌∙◌, arith, List, [], ◌∷◌, ◌++◌, length, get_or, map, drop, append_assoc, subst, Option}
+use Rattle.std.proofs.Common.{◌≡◌, ℕ, refl, sym, ap, ◌∙◌, List, [], ◌∷◌, ◌++◌, get_or}
 use Rattle.std.specs.Prelude.{codes}
 use Rattle.std.specs.List.{flat_map}
-use Rattle.witness_laws.specs.Lines.{chain_line, numbers_line, row_line, lines_of, no_feed, IsOneLine}
+use Rattle.witness_laws.specs.Lines.{chain_line, numbers_line, lines_of}
 use Rattle.witness_laws.specs.Parts.{AreTerms}
 use Rattle.witness_laws.proofs.Telling.{lines_tell_their_parts}
 use Rattle.witness_laws.proofs.Texts.{texts_have_their_lines}
 use Rattle.witness_scanning.specs.Fronts.{BeginsOtherwise}
 use Rattle.witness_scanning.specs.Lines.{HasNoChainLine, HasNoVertexLine}
-use Rattle.witness_runs.specs.Runs.{head_of, run_text}
-use Rattle.witness_reading.proofs.Forms.{Item, texts, Names, Then, IsTold, Run, AreRun}
-use Rattle.witness_reading.proofs.Stops.{AllNames, BeginsWith}
+use Rattle.witness_reading.proofs.Forms.{Item, IsTold}
+use Rattle.witness_reading.proofs.Stops.{BeginsWith}
 
 -- ---- items
 
@@ -60,8 +59,10 @@ in_front bytes t h = by (lines_of bytes) refl h
   where
     by : (ts : List (List ℕ)) → lines_of bytes ≡ ts → BeginsWith t ts → (rest : List ℕ) × (bytes ≡ t ++ rest)
     by [] e h = absurd h
-    by (u ∷ us) e h = (flat_map (λ x. x) us,
-        sym (texts_have_their_lines.joined bytes) ∙ ap (flat_map (λ x. x)) e ∙ ap (λ x. x ++ flat_map (λ y. y) us) (sym h))
+    by (u ∷ us) e h = (
+      flat_map (λ x. x) us,
+      sym (texts_have_their_lines.joined bytes) ∙ ap (flat_map (λ x. x)) e ∙ ap (λ x. x ++ flat_map (λ y. y) us) (sym h),
+    )
 
 pub no_chain_here : (p : ℕ) (word ns kinds : List ℕ) (wanted : ℕ) (bytes : List ℕ) → HasNoChainLine word ns p bytes
     → (z : Item) → IsChainItem p word ns kinds wanted z → BeginsWith z.text (lines_of bytes) → ⊥

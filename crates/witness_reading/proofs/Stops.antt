@@ -1,5 +1,5 @@
 -- Where the lines of a text leave a form, or name other cells, and what that says of its first failing line.
-use Rattle.std.proofs.Common.{◌≡◌, ℕ, zero, suc, ◌+◌, ◌<◌, refl, sym, ap, ◌∙◌, arith, List, [], ◌∷◌, ◌++◌, length, get_or, map, append_assoc, subst}
+use Rattle.std.proofs.Common.{◌≡◌, ℕ, zero, suc, ◌+◌, ◌<◌, refl, sym, ap, ◌∙◌, arith, List, [], ◌∷◌, ◌++◌, length, get_or, append_assoc, subst}
 use Rattle.std.proofs.lemmas.List.{map-append, length-append, append_cancel_left}
 use Rattle.witness_laws.specs.Formats.{Format, IsTextFault, IsCellFault}
 use Rattle.witness_reading.proofs.Forms.{Item, no_item, texts, Names, Reads, behind, Then, IsTold}
