@@ -17,3 +17,4 @@ pub mod Degrees
 pub mod PairValues
 pub mod PairForm
 pub mod PairFaults
+pub mod PairWhole

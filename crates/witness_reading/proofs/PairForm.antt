@@ -30,7 +30,7 @@ End = Then (IsWordItem (codes "end\n")) (λ _. Nothing)
 abbrev pub PairForm : ℕ → Given → List Item → Type 0
 PairForm p G = Section p G.top (pair_kinds G domain) (cell_numbers G domain) (cell_kinds G domain) (λ cs. End) (head_line domain)
 
-chains_of_zipped : (ds : List ℕ) (xs : List (List (ℕ × ℕ))) → length xs ≡ length ds → map (λ (c : ℕ × List (ℕ × ℕ)). c.1) (zipped ds xs) ≡ xs
+pub chains_of_zipped : (ds : List ℕ) (xs : List (List (ℕ × ℕ))) → length xs ≡ length ds → map (λ (c : ℕ × List (ℕ × ℕ)). c.1) (zipped ds xs) ≡ xs
 chains_of_zipped [] [] e = refl
 chains_of_zipped [] (x ∷ xs) e = absurd (omega arith)
 chains_of_zipped (d ∷ ds) [] e = absurd (omega arith)
@@ -47,7 +47,7 @@ module _ (p : ℕ) (G : Given) (none : G.target ≡ None) where
   no_map S None w = refl
   no_map S (Some M) w = absurd (subst (λ (t : Option Target). IsMapPart p G t S (Some M)) none w)
 
-  lines_are : (W : Tables) → W.map ≡ None → items_of G W ≡ map (item_of_line G W) (pair_lines domain W.domain) ++ word_item (codes "end\n") ∷ []
+  pub lines_are : (W : Tables) → W.map ≡ None → items_of G W ≡ map (item_of_line G W) (pair_lines domain W.domain) ++ word_item (codes "end\n") ∷ []
   lines_are W e =
       let f : Line → Item = item_of_line G W in
       let a : List Line = pair_lines domain W.domain in
