@@ -18,3 +18,4 @@ pub mod PairValues
 pub mod PairForm
 pub mod PairFaults
 pub mod PairWhole
+pub mod Ordering

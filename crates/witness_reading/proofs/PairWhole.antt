@@ -122,11 +122,14 @@ module _ (p : ℕ) (G : Given) (none : G.target ≡ None) (bytes : List ℕ) (cs
   whole = record { fits = fits; lines = sym (texts_of_items p G value) ∙ ap texts items_are ∙ sym all_lines }
 
   all_named : AllNames all
-  all_named = (tt, all_names (cycle_items table cs) (cs_items ++ (hs_items ++ last)) (cycles_names table cs h.pair.first.has.names)
-      (all_names cs_items (hs_items ++ last)
-      (run_names p (codes "c") None table (degrees_of cs) (kinds_of cs) cocycles (λ i l. h.pair.second.names i (let e = h.pair.second.run.many in omega arith)))
-      (all_names hs_items last
-      (run_names p (codes "h") None table (cell_numbers G domain) (cell_kinds G domain) homotopy (λ i l. h.pair.names i (let e = h.pair.third.many in omega arith))) (tt, tt))))
+  all_named = (
+    tt,
+    all_names (cycle_items table cs) (cs_items ++ (hs_items ++ last)) (cycles_names table cs h.pair.first.has.names)
+        (all_names cs_items (hs_items ++ last)
+        (run_names p (codes "c") None table (degrees_of cs) (kinds_of cs) cocycles (λ i l. h.pair.second.names i (let e = h.pair.second.run.many in omega arith)))
+        (all_names hs_items last
+        (run_names p (codes "h") None table (cell_numbers G domain) (cell_kinds G domain) homotopy (λ i l. h.pair.names i (let e = h.pair.third.many in omega arith))) (tt, tt))),
+  )
 
   pub meets : MeetsFirst (tables_format p G) value
   meets = tables_meet p G value (subst AllNames (sym items_are) all_named)
