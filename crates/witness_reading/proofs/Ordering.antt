@@ -1,5 +1,5 @@
 -- The degrees of cycles that were read never fall.
-use Rattle.std.proofs.Common.{◌≡◌, ℕ, zero, suc, ◌+◌, ◌<◌, ◌≤◌, arith, List, [], ◌∷◌, length, get_or}
+use Rattle.std.proofs.Common.{ℕ, zero, suc, ◌<◌, ◌≤◌, arith, List, [], ◌∷◌, length, get_or}
 use Rattle.witness_reading.proofs.Flat.{Rising}
 
 -- each is between the bounds

@@ -1,5 +1,5 @@
 -- A witness of a pair that is read whole: it has the value of its parts, and meets the law of the first pass.
-use Rattle.std.proofs.Common.{◌≡◌, ℕ, zero, suc, ◌+◌, ◌<◌, ◌≤◌, refl, sym, ap, ◌∙◌, arith, List, [], ◌∷◌, ◌++◌, length, get_or, map, subst, None}
+use Rattle.std.proofs.Common.{◌≡◌, ℕ, ◌<◌, ◌≤◌, refl, sym, ap, ◌∙◌, arith, List, [], ◌∷◌, ◌++◌, length, map, subst, None}
 use Rattle.std.proofs.lemmas.List.{map-append, length-map, get_or-map}
 use Rattle.std.specs.Prelude.{Option, codes}
 use Rattle.witness_laws.specs.Lines.{domain, end, lines_of}
@@ -8,21 +8,20 @@ use Rattle.witness_laws.specs.Inputs.{Given, Target}
 use Rattle.witness_laws.specs.Parts.{AreTerms, nth}
 use Rattle.witness_laws.specs.Inputs.{relative_cells}
 use Rattle.witness_laws.specs.Parts.{relative_number}
-use Rattle.witness_laws.specs.Tables.{Tables, PairTables, IsTables, IsMapPart, IsPairTables, lines_of_tables, tables_format}
+use Rattle.witness_laws.specs.Tables.{Tables, IsTables, IsMapPart, IsPairTables, lines_of_tables, tables_format}
 use Rattle.witness_laws.proofs.Runs.{length_singles}
 use Rattle.witness_laws.proofs.Texts.{texts_have_their_lines}
-use Rattle.witness_runs.specs.Cycles.{AreCycles, cycles_text}
+use Rattle.witness_runs.specs.Cycles.{AreCycles}
 use Rattle.section_reading.specs.Section.{degrees_of, kinds_of, HasSection}
 use Rattle.witness_reading.proofs.Forms.{Item, no_item, texts, Names}
 use Rattle.witness_reading.proofs.Stops.{AllNames, all_names, names_at}
 use Rattle.witness_reading.proofs.Shapes.{word_item}
 use Rattle.witness_reading.proofs.Runs.{heads, run_items, run_lines, run_names}
 use Rattle.witness_reading.proofs.Cycling.{cycle_items}
-use Rattle.witness_reading.proofs.Flat.{zipped}
 use Rattle.witness_reading.proofs.PairValues.{tables_by, tables_fit, flat_is, flat_cocycles_are}
 use Rattle.witness_reading.proofs.Items.{item_of_line, items_of, pair_kinds, texts_of_items, law_from_names}
 use Rattle.witness_reading.proofs.Places.{cycles_lines, cycles_names}
-use Rattle.witness_reading.proofs.Pairs.{head_line, cell_numbers, cell_kinds, pair_items, flat_cycles, cocycle_chains}
+use Rattle.witness_reading.proofs.Pairs.{head_line, cell_numbers, cell_kinds, pair_items, cocycle_chains}
 use Rattle.witness_reading.proofs.PairForm.{lines_are, chains_of_zipped}
 
 raised : (p low high top : ℕ) (cs : List (ℕ × List (ℕ × ℕ))) → high ≤ top → AreCycles p low high cs → AreCycles p low top cs
