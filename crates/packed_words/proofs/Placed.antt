@@ -1,5 +1,5 @@
 -- Where a key stands, and what its word says of a cell
-use Rattle.std.proofs.Common.{◌≡◌, ℕ, zero, suc, ◌+◌, ◌*◌, ◌-◌, ◌/◌, ◌%◌, ◌^◌, ◌<◌, ◌≤◌, refl, sym, ap, ◌∙◌, arith, ⊎_elim, List, [], ◌∷◌, length, get_or, drop, true, false, ◌&&◌, subst, Result, Err, is_ok}
+use Rattle.std.proofs.Common.{◌≡◌, ℕ, zero, suc, ◌+◌, ◌*◌, ◌/◌, ◌%◌, ◌^◌, ◌<◌, ◌≤◌, refl, sym, ap, ◌∙◌, arith, ⊎_elim, List, [], ◌∷◌, length, get_or, true, false, ◌&&◌, Result, Err, is_ok}
 use Rattle.std.specs.Prelude.{nat_le, nat_lt, ℤ, pos, ◌+ℤ◌, Bool}
 use Rattle.std.proofs.lemmas.Int.{ints}
 use Rattle.std.specs.List.{list_all}
@@ -17,9 +17,8 @@ use Rattle.std.proofs.Math.Nat.{pow-succ'}
 use Rattle.std.proofs.lemmas.Nat.{shr-shr}
 use Rattle.std.proofs.lemmas.Map.Keys.{Less-from_sorted}
 use Rattle.elem_cubes.specs.declared.range.TheConstants.{MAX_EMBEDDING}
-use Rattle.elem_cubes.specs.Cells.{Factor, point, interval, low, is_wide, is_factor, is_file_factor, is_cell, lower_of, axes_of, cell_of}
+use Rattle.elem_cubes.specs.Cells.{Factor, point, interval, low, is_factor, is_file_factor, is_cell, lower_of, axes_of, cell_of}
 use Rattle.elem_cubes.specs.Corners.{is_end, is_file_end}
-use Rattle.elem_cubes.specs.Walks.{factor_at}
 use Rattle.elem_cubes.proofs.Bits.{parts_of_cell}
 use Rattle.cube_sets.specs.Sorted.{has}
 use Rattle.cube_sets.proofs.Sorting.{search_has}

@@ -1,4 +1,4 @@
-use Rattle.std.proofs.Common.{◌∙◌, sym}
+use Rattle.std.proofs.Common.{sym}
 use Rattle.packed_words.proofs.Placed.{nibble_shift}
 use Rattle.packed_words.proofs.words.four_bits.Goals as goal
 
