@@ -81,4 +81,3 @@ known a b e f = sym (parts_of_cell a) ∙ (λ i. cell_of (e i) (f i)) ∙ parts_
 -- and so by its key and its slot
 pub known_by_key : (a b : List Factor) → lower_of a ≡ lower_of b → 16 * (axes_of a / 16) ≡ 16 * (axes_of b / 16) → slot_of a ≡ slot_of b → a ≡ b
 known_by_key a b e u s = known a b e (omega arith)
-
