@@ -4,7 +4,7 @@ use Rattle.std.specs.List.{Contains}
 use Rattle.std.specs.List.Sorted.{IsStrictlySortedBy}
 use Rattle.std.specs.Prelude.{nat_lt}
 use Rattle.std.proofs.lemmas.Bool.{cases_lt, cases_eq, le-ltb}
-use Rattle.std.proofs.lemmas.List.{take_more, map-append}
+use Rattle.std.proofs.lemmas.List.{take_more, map-append, get_or_default}
 use Rattle.std.proofs.lemmas.List.Sums.{passes_at_first}
 use native.Mathlib.Nat.{mod-mod}
 use Rattle.field_mod.specs.Modular.{Same, NonZero}
@@ -23,11 +23,15 @@ use Rattle.cube_sets.specs.Sorted.{has}
 use Rattle.cell_complex.specs.Numbering.{IsListing, by_cell, number_of}
 use Rattle.cell_complex.proofs.Deciding.{cell_true}
 use Rattle.cell_complex.proofs.Numbering.{number_at as listed_number}
-use Rattle.cell_complex.proofs.Sorting.{number_below, found}
+use Rattle.cell_complex.proofs.Sorting.{number_below}
 use Rattle.chain_selector.specs.Renumbered.{IsRenumbered}
 use Rattle.chain_selector.proofs.OtherNumbers.{sorted_listing, by_cell-past}
 use Rattle.witness_laws.specs.Parts.{AreTerms, NameCells, chain_of, nth}
 use Rattle.witness_parts.specs.Filed.{IsFiled, AreFiled, from_one}
+
+-- a cell that stands at a place is in the list
+found : (cells : List (List Factor)) (q : List Factor) (i : ℕ) → i < length cells → cell_at cells i ≡ q → Contains cells q
+found cells q i within at = (i, within, get_or_default cells i q [] within ∙ at)
 
 -- ---- numbers one more
 
