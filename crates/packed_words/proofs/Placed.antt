@@ -1,10 +1,10 @@
 -- Where a key stands, and what its word says of a cell
-use Rattle.std.proofs.Common.{◌≡◌, ℕ, zero, suc, ◌+◌, ◌-◌, ◌/◌, ◌%◌, ◌^◌, ◌<◌, ◌≤◌, refl, sym, ap, ◌∙◌, arith, ⊎_elim, List, [], ◌∷◌, length, get_or, drop, true, false, ◌&&◌, subst, Result, Err, is_ok}
+use Rattle.std.proofs.Common.{◌≡◌, ℕ, zero, suc, ◌+◌, ◌*◌, ◌/◌, ◌%◌, ◌^◌, ◌<◌, ◌≤◌, refl, sym, ap, ◌∙◌, arith, ⊎_elim, List, [], ◌∷◌, length, get_or, true, false, ◌&&◌, Result, Err, is_ok}
 use Rattle.std.specs.Prelude.{nat_le, nat_lt, ℤ, pos, ◌+ℤ◌, Bool}
 use Rattle.std.proofs.lemmas.Int.{ints}
 use Rattle.std.specs.List.{list_all}
 use Rattle.std.specs.List.Sorted.{IsStrictlySortedBy, IsBinarySearchResult, IsSearchInRange}
-use Rattle.std.specs.Cmp.{IsTotalOrder}
+use Rattle.std.specs.Cmp.{IsTotalOrder, Equal-is}
 use Rattle.std.specs.Ordering.{is_eq}
 use Rattle.std.specs.declared.cmp.Ordering.TheVariants.{Equal}
 use Rattle.std.proofs.lemmas.Bool.{true≢false, and_from, and_parts, cases_Bool}
@@ -14,11 +14,11 @@ use Rattle.std.proofs.lemmas.List.{length-map, get_or_past}
 use Rattle.std.proofs.lemmas.List.Folds.{list_any_at}
 use Rattle.std.proofs.lemmas.List.Sums.{position_or_len_is}
 use Rattle.std.proofs.Math.Nat.{pow-succ'}
+use Rattle.std.proofs.lemmas.Nat.{shr-shr}
 use Rattle.std.proofs.lemmas.Map.Keys.{Less-from_sorted}
 use Rattle.elem_cubes.specs.declared.range.TheConstants.{MAX_EMBEDDING}
-use Rattle.elem_cubes.specs.Cells.{Factor, point, interval, low, is_wide, is_factor, is_file_factor, is_cell, lower_of, axes_of, cell_of}
+use Rattle.elem_cubes.specs.Cells.{Factor, point, interval, low, is_factor, is_file_factor, is_cell, lower_of, axes_of, cell_of}
 use Rattle.elem_cubes.specs.Corners.{is_end, is_file_end}
-use Rattle.elem_cubes.specs.Walks.{factor_at}
 use Rattle.elem_cubes.proofs.Bits.{parts_of_cell}
 use Rattle.cube_sets.specs.Sorted.{has}
 use Rattle.cube_sets.proofs.Sorting.{search_has}
@@ -45,13 +45,19 @@ place_missing keys k at r is sorted within found =
     (λ j l. ⊎_elim (λ t. absurd (true≢false (sym (list_any_at (λ x. is_eq (key_cmp x k)) keys j no_key l t) ∙ sym none))) (λ f. f) (cases_Bool (is_eq (key_cmp (get_or keys j no_key) k))))
     (λ l. absurd (omega arith))
 
+-- the key at a place is equal to this one
+pub at_key : (keys : List Key) (k : Key) (i : ℕ) (b : Bool) → b ≡ is_eq (key_cmp (get_or keys i no_key) k)
+    → IsStrictlySortedBy key_cmp keys → i < length keys → b ≡ true → place_of keys k ≡ i
+at_key keys k i b is sorted l t =
+    place_here keys k i sorted l ((Equal-is (key_cmp (get_or keys i no_key) k)).0 (sym is ∙ t))
+
 -- ---- four bits
 
-pub nibble_step : (slot i w : ℕ) → i < slot → nibble (slot - (i + 1)) (w / 16) ≡ nibble (slot - i) w
-nibble_step slot i w l = let e : slot - i ≡ suc (slot - (i + 1)) = omega arith in sym (ap (λ n. nibble n w) e)
-
-pub nibble_last : (slot i w : ℕ) → slot ≤ i → nibble (slot - i) w ≡ w % 16
-nibble_last slot i w l = let e : slot - i ≡ 0 = omega arith in ap (λ n. nibble n w) e
+pub nibble_shift : (k w : ℕ) → nibble k w ≡ w / 2 ^ (4 * k) % 16
+nibble_shift zero w = omega arith
+nibble_shift (suc k) w =
+    let e : 4 + 4 * k ≡ 4 * suc k = omega arith in
+    nibble_shift k (w / 16) ∙ ap (λ x. x % 16) (shr-shr w 4 (4 * k) ∙ ap (λ n. w / 2 ^ n) e)
 
 pub no_word : (w : PackedWords) (c : List Factor) → length w.words ≡ length w.keys → place_of w.keys (key_of c) ≡ length w.keys → 0 ≡ state_of w c
 no_word w c e p = sym (ap (nibble (slot_of c)) (get_or_past w.words (place_of w.keys (key_of c)) 0 (omega arith)) ∙ nibble-zero (slot_of c))

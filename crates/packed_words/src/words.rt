@@ -1,5 +1,5 @@
 //! The states of cells packed into words.
-ghost use Rattle.std.specs.Prelude.{◌≡◌, ℕ, ◌<◌, ◌≤◌, ◌+◌, ◌*◌, ◌^◌, List, true, length, vec_len, slice_index_or, IfOk, if◌then◌else◌};
+ghost use Rattle.std.specs.Prelude.{◌≡◌, ℕ, ◌<◌, ◌≤◌, ◌+◌, ◌*◌, ◌^◌, List, true, length, vec_len, IsTrue, IfOk};
 ghost use Rattle.std.specs.List.{list_all};
 ghost use Rattle.std.specs.List.Sorted.{IsStrictlySortedBy};
 ghost use Rattle.elem_cubes.specs.Cells.{Factor, is_file_factor, same_cell};
@@ -63,11 +63,12 @@ pub fn words_of(alloc: Global, cells: &Numbered, alive: &[bool]) -> Result<Words
     let keys = keys_of(alloc, cells)?;
     let mut words = zero_words(alloc, keys)?;
     let mut near = 0;
+    let mut at = 0;
     'cells: for number in 0..cells.len() {
         if !alive[number as usize] {
             continue;
         }
-        words.enliven(&cells.cell_near(number, &mut near));
+        words.enliven(&cells.cell_near(number, &mut near), &mut at);
     }
     Ok(words)
 }
@@ -83,10 +84,26 @@ fn keys_of(alloc: Global, cells: &Numbered) -> Result<Vec<PackedKey>, AllocError
     let mut keys = Vec::new(alloc);
     let mut near = 0;
     'cells: for number in 0..cells.len() {
-        keys.push(packed_key(&cells.cell_near(number, &mut near)))?;
+        let key = packed_key(&cells.cell_near(number, &mut near));
+        if ends_with(&keys, &key) {
+            continue;
+        }
+        keys.push(key)?;
     }
     sort_distinct(&mut keys);
     Ok(keys)
+}
+
+// Whether the key is the last of the list; then it is in the list.
+#[tactic(auto, using(crate::proofs::Keys::last_has))]
+fn ends_with(keys: &[PackedKey], key: &PackedKey) -> bool
+    ensures { IsTrue result → has key_cmp keys.now key.now ≡ true }
+{
+    let count = keys.len();
+    if count == 0 {
+        return false;
+    }
+    keys[count - 1].cmp(key).is_eq()
 }
 
 // Sorts the values, and keeps one of those that are equal.
@@ -141,13 +158,10 @@ fn packed_key(cell: &Cell) -> PackedKey
 
 // Four bits of a word.
 fn four_bits(word: u64, slot: u8) -> u8
+    requires { slot < 16 }
     ensures { result ≡ nibble slot word }
 {
-    let mut rest = word;
-    for _ in 0..slot {
-        rest /= 16;
-    }
-    (rest % 16) as u8
+    ((word >> (4 * slot)) % 16) as u8
 }
 
 impl Words {
@@ -192,19 +206,71 @@ impl Words {
         place_in(&self.keys, &packed_key(cell)) as u32
     }
 
-    /// The state of a cell; 0 where it has no word.
-    pub fn state(&self, cell: &Cell) -> u8
+    // Whether the key at a place is this one.
+    #[tactic(auto, using(crate::proofs::Placed::at_key))]
+    fn is_at(&self, place: u32, key: &PackedKey) -> bool
+        ensures here { IsTrue result → place_of self.now.keys key.now ≡ place }
+        ensures within { IsTrue result → place < length self.now.keys }
+    {
+        if place >= self.len() {
+            return false;
+        }
+        self.keys[place as usize].cmp(key).is_eq()
+    }
+
+    /// The place of the word that has a cell's state, or how many words there are. It is found
+    /// sooner where it is the place that was told with this `near` before, or the next one; at first
+    /// `near` is 0.
+    pub fn place_near(&self, cell: &Cell, near: &mut u32) -> u32
+        ensures place { result ≡ place_of self.now.keys (key_of cell.now) }
+        ensures within { result ≤ length self.now.keys }
+    {
+        let key = packed_key(cell);
+        if self.is_at(*near, &key) {
+            return *near;
+        }
+        let next = near.saturating_add(1);
+        if self.is_at(next, &key) {
+            *near = next;
+            return next;
+        }
+        let place = place_in(&self.keys, &key) as u32;
+        if place < self.len() {
+            *near = place;
+        }
+        place
+    }
+
+    // The state of a cell whose key is at a place, or has none.
+    fn state_at(&self, cell: &Cell, place: u32) -> u8
+        requires place { place ≡ place_of self.now.keys (key_of cell.now) }
+        requires within { place ≤ length self.now.keys }
         ensures { result ≡ state_of self.now cell.now }
     {
-        let place = self.place(cell);
-        if place == self.len() {
+        if place >= self.len() {
             return 0;
         }
         four_bits(self.word(place), cell.axes() % 16)
     }
 
+    /// The state of a cell; 0 where it has no word.
+    pub fn state(&self, cell: &Cell) -> u8
+        ensures { result ≡ state_of self.now cell.now }
+    {
+        self.state_at(cell, self.place(cell))
+    }
+
+    /// The same, found sooner where the cell's word is at the place that was found with this `near`
+    /// before, or at the next one; at first `near` is 0.
+    pub fn state_near(&self, cell: &Cell, near: &mut u32) -> u8
+        ensures { result ≡ state_of self.now cell.now }
+    {
+        let place = self.place_near(cell, near);
+        self.state_at(cell, place)
+    }
+
     // Makes a cell alive that has a word, where its state is 0.
-    fn enliven(&mut self, cell: &Cell)
+    fn enliven(&mut self, cell: &Cell, near: &mut u32)
         requires placed { place_of self.old.keys (key_of cell.now) < length self.old.keys }
         requires in_range { list_all is_file_factor cell.now ≡ true }
         requires dead { state_of self.old cell.now ≡ 0 }
@@ -212,7 +278,7 @@ impl Words {
         ensures states { IsEnlivened cell.now self.old self.new }
     {
         let _ = self.len();
-        let place = self.place(cell);
+        let place = self.place_near(cell, near);
         let unit = 16u64.pow(u32::from(cell.axes() % 16));
         let word = self.word(place) + unit;
         self.put(place, word);
