@@ -9,7 +9,11 @@ ghost use Rattle.packed_words.specs.Words.{AreWords, AreKeysOf, IsWordOf, IsKey,
 use cell_complex::Numbered;
 use elem_cubes::{Cell, Corner};
 use std::alloc::{AllocError, Global};
+use std::cmp::Ordering;
 use std::marker::Model;
+
+// How many places are looked at one by one before a search of all.
+const FEW: usize = 16;
 
 /// A lower corner with axes from the fifth on.
 #[derive(Clone, Copy, PartialEq, Eq, PartialOrd, Ord)]
@@ -131,16 +135,52 @@ fn zero_words(alloc: Global, keys: Vec<PackedKey>) -> Result<Words, AllocError>
     Ok(Words { keys, words })
 }
 
-// The place of a key in a sorted list, or how many keys there are.
-fn place_in(keys: &[PackedKey], key: &PackedKey) -> usize
+// The place of a key in a sorted list, or how many keys there are. `near` becomes that place, or that
+// of the last key below.
+fn place_in(keys: &[PackedKey], key: &PackedKey, near: &mut usize) -> usize
     requires { IsStrictlySortedBy key_cmp keys.now }
     ensures place { result ≡ place_of keys.now key.now }
     ensures within { result ≤ length keys.now }
 {
     match keys.binary_search(key) {
-        Ok(place) => place,
-        Err(_) => keys.len(),
+        Ok(place) => {
+            *near = place;
+            place
+        }
+        Err(place) => {
+            *near = place.saturating_sub(1);
+            keys.len()
+        }
     }
+}
+
+// The same, found sooner where it is one of the few from `near` on, or would stand among them.
+fn place_from(keys: &[PackedKey], key: &PackedKey, near: &mut usize) -> usize
+    requires { IsStrictlySortedBy key_cmp keys.now }
+    ensures place { result ≡ place_of keys.now key.now }
+    ensures within { result ≤ length keys.now }
+{
+    let end = near.saturating_add(FEW).min(keys.len());
+    let mut below = false;
+    'few: for place in *near..end {
+        match keys[place].cmp(key) {
+            Ordering::Less => {
+                below = true;
+                *near = place;
+            }
+            Ordering::Equal => {
+                *near = place;
+                return place;
+            }
+            Ordering::Greater => {
+                if below || place == 0 {
+                    return keys.len();
+                }
+                return place_in(keys, key, near);
+            }
+        }
+    }
+    place_in(keys, key, near)
 }
 
 // The key of a cell.
@@ -203,42 +243,33 @@ impl Words {
         ensures place { result ≡ place_of self.now.keys (key_of cell.now) }
         ensures within { result ≤ length self.now.keys }
     {
-        place_in(&self.keys, &packed_key(cell)) as u32
+        let mut near = 0;
+        place_in(&self.keys, &packed_key(cell), &mut near) as u32
     }
 
-    // Whether the key at a place is this one.
-    #[tactic(auto, using(crate::proofs::Placed::at_key))]
-    fn is_at(&self, place: u32, key: &PackedKey) -> bool
-        ensures here { IsTrue result → place_of self.now.keys key.now ≡ place }
-        ensures within { IsTrue result → place < length self.now.keys }
-    {
-        if place >= self.len() {
-            return false;
-        }
-        self.keys[place as usize].cmp(key).is_eq()
-    }
-
-    /// The place of the word that has a cell's state, or how many words there are. It is found
-    /// sooner where it is the place that was told with this `near` before, or the next one; at first
-    /// `near` is 0.
+    /// The same, found sooner where the place is one of the few from the one that was found with
+    /// this `near` before; at first `near` is 0.
     pub fn place_near(&self, cell: &Cell, near: &mut u32) -> u32
         ensures place { result ≡ place_of self.now.keys (key_of cell.now) }
         ensures within { result ≤ length self.now.keys }
     {
-        let key = packed_key(cell);
-        if self.is_at(*near, &key) {
-            return *near;
+        let mut at = *near as usize;
+        let place = place_from(&self.keys, &packed_key(cell), &mut at);
+        if at < self.keys.len() {
+            *near = at as u32;
         }
-        let next = near.saturating_add(1);
-        if self.is_at(next, &key) {
-            *near = next;
-            return next;
+        place as u32
+    }
+
+    /// The word that has a cell's state, found as its place is; 0 where there is none.
+    pub fn word_near(&self, cell: &Cell, near: &mut u32) -> u64
+        ensures { result ≡ word_at self.now (place_of self.now.keys (key_of cell.now)) }
+    {
+        let place = self.place_near(cell, near);
+        if place >= self.len() {
+            return 0;
         }
-        let place = place_in(&self.keys, &key) as u32;
-        if place < self.len() {
-            *near = place;
-        }
-        place
+        self.word(place)
     }
 
     // The state of a cell whose key is at a place, or has none.
@@ -260,8 +291,8 @@ impl Words {
         self.state_at(cell, self.place(cell))
     }
 
-    /// The same, found sooner where the cell's word is at the place that was found with this `near`
-    /// before, or at the next one; at first `near` is 0.
+    /// The same, found sooner where the cell's word is soon after the place that was found with this
+    /// `near` before; at first `near` is 0.
     pub fn state_near(&self, cell: &Cell, near: &mut u32) -> u8
         ensures { result ≡ state_of self.now cell.now }
     {
