@@ -14,7 +14,7 @@ pub returns-then-below-clause-place : goal.returns-then-below-clause-place
 returns-then-below-clause-place c =
     let l : c.few.place < length c.args.keys.now = omega (arith, c.few-test.true, c.min-end.ensures) in
     let low : 1 ≤ c.few.place → key_cmp (get_or c.args.keys.now (c.few.place - 1) no_key) c.args.key.now ≡ Less = λ h. elim c.then-below.branch [
-      then-below-via-then-below w ↦ (c.few.invariant w.if-below.true).1
+      | then-below-via-then-below w ↦ (c.few.invariant w.if-below.true).1
       | then-below-via-else-below+then-place-eq0 w ↦ absurd (omega arith)
     ] in
     sym (key_between c.args.keys.now c.args.key.now c.few.place c.requires l
