@@ -1,12 +1,9 @@
 -- Removals free pairs of the same rank or a higher one alone
-use Rattle.std.proofs.Common.{◌≡◌, ℕ, ◌+◌, ◌-◌, ◌*◌, ◌/◌, ◌%◌, ◌^◌, ◌<◌, ◌≤◌, refl, sym, ap, ◌∙◌, arith, ⊎_elim, List, [], ◌∷◌, ◌++◌, length, get_or, Bool, true, false, cond, ◌&&◌, ◌||◌, subst, Option, Some, None}
-use Rattle.std.specs.Prelude.{ℤ, not, nat_lt}
+use Rattle.std.proofs.Common.{◌≡◌, ℕ, ◌+◌, ◌-◌, ◌*◌, ◌/◌, ◌^◌, ◌<◌, ◌≤◌, refl, sym, ap, ◌∙◌, arith, ⊎_elim, List, [], ◌∷◌, ◌++◌, length, get_or, true, ◌||◌, subst}
+use Rattle.std.specs.Prelude.{not}
 use Rattle.std.specs.List.Sorted.{IsStrictlySortedBy}
-use Rattle.std.proofs.lemmas.Bool.{true≢false, cases_lt, and_from, and_parts, or_from}
-use Rattle.elem_cubes.specs.Cells.{Factor, same_cell, lower_of, axes_of, cell_of, is_cell}
-use Rattle.elem_cubes.specs.KeepingLemmas.{lower-cell_of, axes-cell_of}
-use Rattle.elem_cubes.proofs.Bits.{parts_of_cell}
-use Rattle.std.proofs.lemmas.Bool.Decides.{nat_tests}
+use Rattle.std.proofs.lemmas.Bool.{cases_lt, and_from, and_parts, or_from}
+use Rattle.elem_cubes.specs.Cells.{Factor, same_cell, lower_of, axes_of}
 use Rattle.std.proofs.lemmas.List.{get_or-set_same}
 use Rattle.elem_cubes.specs.OrderLemmas.{cell_cases}
 use Rattle.cell_complex.specs.FreePairs.{differing_axis}
@@ -111,60 +108,6 @@ swept_end start w i keeps l s t f =
     let h = s.later t f in
     omega (arith, p.0)
 
--- ---- the slots of a word
-
--- the pairs of this kind whose face is at the corner, with these upper axes and a slot before this one
-abbrev pub NoneTo : List ℤ → ℕ → (List Factor × List Factor → Type 0) → ℕ → Type 0
-NoneTo corner u P slot = (t : List Factor × List Factor) → lower_of t.0 ≡ corner → axes_of t.0 / 16 ≡ u → axes_of t.0 % 16 < slot → ¬ P t
-
-pub none_first : (corner : List ℤ) (u : ℕ) (P : List Factor × List Factor → Type 0) → NoneTo corner u P 0
-none_first corner u P t e f l p = omega arith
-
-pub none_end : (corner : List ℤ) (u : ℕ) (P : List Factor × List Factor → Type 0) (slot : ℕ) → 16 ≤ slot → NoneTo corner u P slot → (t : List Factor × List Factor) → lower_of t.0 ≡ corner → axes_of t.0 / 16 ≡ u → ¬ P t
-none_end corner u P slot h none t e f p = none t e f (omega arith) p
-
-pub none_next : (corner : List ℤ) (u : ℕ) (P : List Factor × List Factor → Type 0) (slot : ℕ) → NoneTo corner u P slot
-    → ((t : List Factor × List Factor) → lower_of t.0 ≡ corner → axes_of t.0 ≡ 16 * u + slot → ¬ P t) → NoneTo corner u P (slot + 1)
-none_next corner u P slot none here t e f l p = ⊎_elim (λ lt. none t e f lt p) (λ ge. here t e (omega arith) p) (cases_lt (axes_of t.0 % 16) slot)
-
--- what the making of a cell tells
-some_by : (b : Bool) (x : List Factor) (o : Option (List Factor)) → o ≡ cond b (Some x) None → (y : List Factor) → o ≡ Some y → (y ≡ x) × (b ≡ true)
-some_by true x o e y s = (cc, refl)
-some_by false x o e y s = cc
-
-none_by : (b : Bool) (x : List Factor) (o : Option (List Factor)) → o ≡ cond b (Some x) None → o ≡ None → b ≡ false
-none_by true x o e n = cc
-none_by false x o e n = refl
-
--- the pair of a cell that cannot be made is not alive
-pub none_made : (w : PackedWords) (corner : List ℤ) (axes : ℕ) (o : Option (List Factor)) → AreWords w
-    → o ≡ cond (nat_lt axes (2 ^ length corner) && is_cell (cell_of corner axes)) (Some (cell_of corner axes)) None → o ≡ None
-    → (t : List Factor × List Factor) → lower_of t.0 ≡ corner → axes_of t.0 ≡ axes → ¬ IsFreeIn w t
-none_made w corner axes o keeps e n t el ea f =
-    let s = alive_state w t.0 f.free.face_alive in
-    let k = state_in_table w t.0 keeps (omega arith) in
-    let no = none_by (nat_lt axes (2 ^ length corner) && is_cell (cell_of corner axes)) (cell_of corner axes) o e n in
-    let same : t.0 ≡ cell_of corner axes = sym (parts_of_cell t.0) ∙ (λ j. cell_of (el j) (ea j)) in
-    true≢false (sym (and_from (nat_lt axes (2 ^ length corner)) (is_cell (cell_of corner axes)) ((λ j. nat_lt (sym ea j) (2 ^ length (sym el j))) ∙ k.axes) (ap is_cell (sym same) ∙ k.cell)) ∙ no)
-
--- the cell that was made, and its pairs
-module _ (corner : List ℤ) (axes : ℕ) (o : Option (List Factor)) (face : List Factor) (e : o ≡ cond (nat_lt axes (2 ^ length corner) && is_cell (cell_of corner axes)) (Some (cell_of corner axes)) None) (s : o ≡ Some face) where
-  made : (face ≡ cell_of corner axes) × ((nat_lt axes (2 ^ length corner) && is_cell (cell_of corner axes)) ≡ true)
-  made = some_by (nat_lt axes (2 ^ length corner) && is_cell (cell_of corner axes)) (cell_of corner axes) o e face s
-
-  pub none_with : (P : List Factor × List Factor → Type 0) → ((b : List Factor) → ¬ P (face, b)) → (t : List Factor × List Factor) → lower_of t.0 ≡ corner → axes_of t.0 ≡ axes → ¬ P t
-  none_with P none t el ea p =
-      let same : t.0 ≡ face = sym (parts_of_cell t.0) ∙ (λ j. cell_of (el j) (ea j)) ∙ sym made.0 in
-      none t.1 (subst (λ (x : List Factor). P (x, t.1)) same p)
-
-  pub made_key : (u slot : ℕ) → axes ≡ 16 * u + slot → slot < 16 → key_of face ≡ record { corner = corner; upper = 16 * u }
-  made_key u slot ea l =
-      let few : axes < 2 ^ length corner = (let h = (and_parts (nat_lt axes (2 ^ length corner)) (is_cell (cell_of corner axes)) made.1).0 in grind (arith, nat_tests)) in
-      let a : axes_of face ≡ axes = ap axes_of made.0 ∙ axes-cell_of corner axes few in
-      let b : lower_of face ≡ corner = ap lower_of made.0 ∙ lower-cell_of corner axes in
-      let d : 16 * (axes_of face / 16) ≡ 16 * u = omega arith in
-      λ j. record { corner = b j; upper = d j }
-
 -- ---- the word grows with each removal
 
 pub word_grows : (w : PackedWords) (t : List Factor × List Factor) (k : Key) → AreWords w → IsFreeIn w t → key_of t.0 ≡ k
@@ -185,3 +128,23 @@ word_grows w t k keeps f e =
 
 pub reached_more : (first w : PackedWords) (t : List Factor × List Factor) → AreReached first w → IsFreeIn w t → AreReached first (words_without t w)
 reached_more first w t h f = (h.0 ++ t ∷ [], reached_append first w h.0 t h.1 f)
+
+-- ---- all ranks of a corner
+
+pub sizes_stay : (first w : PackedWords) (ts : List (List Factor × List Factor)) → length first.words ≡ length first.keys → IsReachedBy first ts w → length w.words ≡ length w.keys
+sizes_stay first w [] e h = subst (λ (x : PackedWords). length x.words ≡ length x.keys) (sym h) e
+sizes_stay first w (t ∷ ts) e h = sizes_stay (words_without t first) w ts (same_size first t e) h.1
+
+pub swept_point : (start w next : PackedWords) (i : ℕ) → AreWords start → length w.words ≡ length w.keys → IsSwept start w (4 * i) → AreReached w next
+    → ((t : List Factor × List Factor) → lower_of t.0 ≡ (key_at start i).corner → ¬ IsFreeIn next t) → IsSwept start next (4 * (i + 1))
+swept_point start w next i keeps count s more none =
+    let after = sizes_stay w next more.0 count more.1 in
+    let stay : AreReached next next = ([], refl) in
+    let e : 4 * i ≡ 4 * i + 0 = omega arith in
+    let f : 4 * i + 4 ≡ 4 * (i + 1) = omega arith in
+    let s0 : IsSwept start w (4 * i + 0) = subst (λ (n : ℕ). IsSwept start w n) e s in
+    let s1 : IsSwept start next (4 * i + 1) = swept_next start w next i 0 keeps count s0 (omega arith) more (λ t c d. none t c) in
+    let s2 : IsSwept start next (4 * i + 2) = swept_next start next next i 1 keeps after s1 (omega arith) stay (λ t c d. none t c) in
+    let s3 : IsSwept start next (4 * i + 3) = swept_next start next next i 2 keeps after s2 (omega arith) stay (λ t c d. none t c) in
+    let s4 : IsSwept start next (4 * i + 4) = swept_next start next next i 3 keeps after s3 (omega arith) stay (λ t c d. none t c) in
+    subst (λ (n : ℕ). IsSwept start next n) f s4

@@ -1,9 +1,10 @@
-pub mod Axes
 pub mod Removals
 pub mod Reached
 pub mod Taken
 pub mod Turns
 pub mod Ranks
-pub mod Sole
+pub mod Cofaces
+pub mod FreeSlots
 pub mod Freed
 pub mod Listed
+pub mod Steps

@@ -10,7 +10,7 @@ use Rattle.elem_cubes.proofs.Members.{In, In-from, from-In, In-append, left-In}
 use Rattle.cell_complex.specs.FreePairs.{IsFreePair, differing_axis, without_pairs}
 use Rattle.packed_words.specs.Words.{PackedWords, AreWords, key_at, state_of, is_alive}
 use Rattle.word_sweeps.specs.Reached.{words_without}
-use Rattle.word_sweeps.specs.Reached.{IsFreeIn, IsReachedBy, AreReached, IsTakenPair, IsTurn, GoesOn}
+use Rattle.word_sweeps.specs.Reached.{IsReachedBy, AreReached, IsTakenPair, IsTurn, GoesOn}
 use Rattle.word_sweeps.specs.Laws.{rank_of, AreDoneTo}
 use Rattle.word_sweeps.proofs.Reached.{collapse, reached_append, same_size}
 use Rattle.word_sweeps.proofs.Taken.{told, taken_of}
@@ -92,6 +92,19 @@ module _ (start last : PackedWords) (keeps : AreWords start) (h : AreReached sta
       sizes first w [] e h = subst (λ (x : PackedWords). length x.words ≡ length x.keys) (sym h) e
       sizes first w (t ∷ ts) e h = sizes (words_without t first) w ts (same_size first t e) h.1
 
+  pub ordered_point : (w next : PackedWords) (ps now : List (List Factor × List Factor)) (i : ℕ) → IsOrderedTo start last w ps (4 * i) → GoesOn last w ps next now
+      → ((t : List Factor × List Factor) → lower_of t.0 ≡ (key_at start i).corner → ¬ IsTurn next last t) → IsOrderedTo start last next now (4 * (i + 1))
+  ordered_point w next ps now i o g none =
+      let stay : GoesOn last next now next now = on_first last next now in
+      let e : 4 * i ≡ 4 * i + 0 = omega arith in
+      let f : 4 * i + 4 ≡ 4 * (i + 1) = omega arith in
+      let o0 : IsOrderedTo start last w ps (4 * i + 0) = subst (λ (n : ℕ). IsOrderedTo start last w ps n) e o in
+      let o1 : IsOrderedTo start last next now (4 * i + 1) = ordered_next w next ps now i 0 (omega arith) o0 g (λ t c d. none t c) in
+      let o2 : IsOrderedTo start last next now (4 * i + 2) = ordered_next next next now now i 1 (omega arith) o1 stay (λ t c d. none t c) in
+      let o3 : IsOrderedTo start last next now (4 * i + 3) = ordered_next next next now now i 2 (omega arith) o2 stay (λ t c d. none t c) in
+      let o4 : IsOrderedTo start last next now (4 * i + 4) = ordered_next next next now now i 3 (omega arith) o3 stay (λ t c d. none t c) in
+      subst (λ (n : ℕ). IsOrderedTo start last next now n) f o4
+
   module _ (w : PackedWords) (ps : List (List Factor × List Factor)) (i : ℕ) (l : length start.keys ≤ i) (o : IsOrderedTo start last w ps (4 * i)) where
     pub all_taken : (t : List Factor × List Factor) → IsTakenPair start last t → Contains ps t
     all_taken t v = let p = corner_placed start keeps.sorted keeps.count t.0 v.alive in o.below t v (omega (arith, p.0))
@@ -100,9 +113,3 @@ module _ (start last : PackedWords) (keeps : AreWords start) (h : AreReached sta
     ordered_left c = collapse.left start last h.0 keeps.count h.1 c ∙ both_ways (without_pairs h.0 (is_alive start) c) (without_pairs ps (is_alive start) c)
         (λ e. let w = without_taken h.0 (is_alive start) c e in taken_without ps (is_alive start) c w.0 (λ x. let t = taken_by IsFacet cell_dec ps c x in w.1 (taken_in IsFacet cell_dec h.0 c t.0 (contains_in h.0 t.0 ((told start last h.0 keeps.count h.1 t.0).1 (o.some t.0 (in_contains ps t.0 t.1)))) t.2)))
         (λ e. let w = without_taken ps (is_alive start) c e in taken_without h.0 (is_alive start) c w.0 (λ x. let t = taken_by IsFacet cell_dec h.0 c x in w.1 (taken_in IsFacet cell_dec ps c t.0 (contains_in ps t.0 (all_taken t.0 ((told start last h.0 keeps.count h.1 t.0).0 (in_contains h.0 t.0 t.1)))) t.2)))
-
--- ---- the slots of a word
-
--- the free pair of a face is not recorded
-pub not_listed : (w last : PackedWords) (a b : List Factor) → IsFreeIn w (a, b) → ¬ (state_of last a ≡ 2 + differing_axis a b) → (d : List Factor) → ¬ IsTurn w last (a, d)
-not_listed w last a b f n d t = n (t.face ∙ ap (λ x. 2 + differing_axis a x) (f.free.only d t.free.free.coface_alive t.free.free.facet))

@@ -1,9 +1,9 @@
 -- Words that are reached from words by removals of free one-point pairs.
-use Rattle.std.specs.Prelude.{ℕ, ◌≡◌, ◌≤◌, ◌+◌, ◌*◌, ◌/◌, ◌^◌, ◌↔◌, ℤ, List, [], ◌∷◌, ◌++◌}
+use Rattle.std.specs.Prelude.{ℕ, ◌≡◌, ◌≤◌, ◌+◌, ◌*◌, ◌^◌, ◌↔◌, List, [], ◌∷◌, ◌++◌}
 use Rattle.std.specs.List.{Contains}
-use Rattle.elem_cubes.specs.Cells.{Factor, lower_of, axes_of}
+use Rattle.elem_cubes.specs.Cells.{Factor}
 use Rattle.cell_complex.specs.FreePairs.{IsFreePair, IsOnePointPair, without_pairs, differing_axis}
-use Rattle.packed_words.specs.Words.{Key, PackedWords, slot_of, key_of, place_of, word_at, with_word, state_of, is_alive}
+use Rattle.packed_words.specs.Words.{PackedWords, slot_of, key_of, place_of, word_at, with_word, state_of, is_alive}
 
 -- the word after the removal of a pair of its cells: the state of the face goes from 1 to 2 + j,
 -- that of the coface from 1 to 2
@@ -56,15 +56,6 @@ pub record GoesOn
   pub reached : IsReachedBy old more new
   pub listed : (t : List Factor × List Factor)
       → Contains more t → state_of last t.0 ≡ 2 + differing_axis t.0 t.1
-
--- the key of the cells at a corner with these upper axes
-abbrev pub key_with : List ℤ → ℕ → Key
-key_with corner upper = record { corner = corner; upper = 16 * upper }
-
--- of the pairs whose faces are at a corner and have these upper axes, none is such
-abbrev pub NoneAt : List ℤ → ℕ → (List Factor × List Factor → Type 0) → Type 0
-NoneAt corner upper such =
-    (t : List Factor × List Factor) → lower_of t.0 ≡ corner → axes_of t.0 / 16 ≡ upper → ¬ such t
 
 -- the pairs are those that the last words record
 abbrev pub AreTakenPairs
