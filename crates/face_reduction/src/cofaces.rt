@@ -114,6 +114,22 @@ pub(crate) fn wake_faces<const P: u16>(
     Ok(())
 }
 
+/// Those generators below a number wait that a boundary names and of which one coface is left.
+pub(crate) fn wake_before<const P: u16>(
+    boundary: &Chain<P>,
+    tallies: &[Tally],
+    waiting: &mut Front,
+    below: u32,
+) -> Result<(), AllocError> {
+    for place in 0..boundary.len() {
+        let (face, _) = boundary.term(place);
+        if face < below && only_coface(tallies, face).is_some() {
+            waiting.push(face)?;
+        }
+    }
+    Ok(())
+}
+
 // Where the order of all matters, all wait that may come to be free.
 fn wake(tallies: &[Tally], face: u32, waiting: &mut Front) -> Result<(), AllocError>
     ensures kept { OnOk result ((k : ℕ) → is_one_of waiting.old k ≡ true

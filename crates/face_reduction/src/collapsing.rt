@@ -5,8 +5,9 @@ ghost use Rattle.cell_complex.specs.Numbering.{IsComplexOf};
 ghost use Rattle.excision.specs.Left.{is_left};
 ghost use Rattle.face_reduction.specs.Logs.{IsGrowthThenCollapse, IsCollapse, TakesPairs};
 
-use crate::cofaces::{cofaces_of, take_coface, wake_all, wake_faces};
-use crate::free_pairs::next_free;
+use crate::cofaces::{cofaces_of, wake_all, wake_faces};
+use crate::free_pairs::{next_free, take_pair};
+use crate::rising::take_rising;
 use algebraic_reduction::Log;
 use cell_complex::Numbered;
 use elem_cubes::Cell;
@@ -19,8 +20,9 @@ use std::alloc::{AllocError, Global};
 /// tells its coface. Where memory is wanting the log is consumed.
 ///
 /// In the plane what comes to be free is taken before the next free face: so borders of holes stay
-/// whole, and cycles that go round them are short. In higher dimensions that leaves far more cells,
-/// and what comes to be free waits behind the others.
+/// whole, and cycles that go round them are short. In higher dimensions that leaves far more cells:
+/// there pairs whose cells have one lower corner are taken first, in the order of corners, and of
+/// what is left then what comes to be free waits behind the others.
 pub fn collapse<const P: u16>(
     alloc: Global,
     field: Field<P>,
@@ -33,27 +35,24 @@ pub fn collapse<const P: u16>(
     ensures collapse { IfOk result (λ l. IsCollapse cells.now log.entry.steps l.steps) }
     ensures none_free { IfOk result (λ l. HasNoFreePair (is_left cells.now l.steps)) }
 {
-    let mut log = log;
     let mut tallies = cofaces_of(alloc, &log)?;
+    let mut log = take_rising(alloc, field, log, cells, &mut tallies)?;
     let mut waiting = wake_all(alloc, &tallies, cells.len(), lie_in_plane(cells))?;
     'pairs: while let Some(pair) = next_free(&log, cells, &tallies, &mut waiting) {
-        let _ = log.step_count();
-        log = log.reduce_pair(field, pair.0, pair.1)?;
-        take_coface(&mut tallies, log.complex().boundary(pair.0), pair.0);
-        take_coface(&mut tallies, log.complex().boundary(pair.1), pair.1);
+        log = take_pair(field, log, cells, &mut tallies, pair)?;
         wake_faces(log.complex().boundary(pair.0), &tallies, &mut waiting)?;
         wake_faces(log.complex().boundary(pair.1), &tallies, &mut waiting)?;
     }
     Ok(log)
 }
 
-// Whether the cells are those of a line or a plane.
-fn lie_in_plane(cells: &Numbered) -> bool {
+/// Whether the cells are those of a line or a plane.
+pub(crate) fn lie_in_plane(cells: &Numbered) -> bool {
     cells.len() > 0 && cells.cell(0).embedding() <= 2
 }
 
-/// One more step for each of these pairs, each of which is free at its turn. Where memory is
-/// wanting the log is consumed.
+/// One more step for each of these pairs, each of which is free at its turn; found soonest where
+/// faces, and cofaces, come in the order of cells. Where memory is wanting the log is consumed.
 pub fn take_pairs<const P: u16>(
     log: Log<P>,
     field: Field<P>,
@@ -68,10 +67,12 @@ pub fn take_pairs<const P: u16>(
 {
     let _ = cells.len();
     let mut log = log;
+    let mut near_face = 0;
+    let mut near_coface = 0;
     for pair in pairs {
         let _ = log.step_count();
-        let face = cells.number(&pair.0).unwrap();
-        let coface = cells.number(&pair.1).unwrap();
+        let face = cells.number_near(&pair.0, &mut near_face).unwrap();
+        let coface = cells.number_near(&pair.1, &mut near_coface).unwrap();
         log = log.reduce_pair(field, face, coface)?;
     }
     Ok(log)

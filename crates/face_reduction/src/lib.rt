@@ -6,6 +6,7 @@ mod collapsing;
 mod free_pairs;
 mod front;
 mod laws;
+mod rising;
 
 pub use collapsing::{collapse, take_pairs};
 pub use laws::{collapses_go_on, collapses_leave_restrictions, free_pairs_are_units};
