@@ -4,7 +4,6 @@ ghost use Rattle.chain_tool.specs.declared.homchain.ChainJob.{ChainJob};
 ghost use Rattle.chain_tool.specs.Jobs.{chain_job};
 
 /// Each reading is judged in one way.
-#[tactic(auto, using(crate::proofs::Judging::chain_once))]
 pub fn chain_jobs_have_one_judgement()
     ensures { (job : ChainJob) → HasOneJudgement (chain_job job) }
 {}

@@ -4,7 +4,6 @@ ghost use Rattle.gen_tool.specs.declared.holes.HolesJob.{HolesJob};
 ghost use Rattle.gen_tool.specs.Jobs.{holes_job};
 
 /// Each reading is judged in one way.
-#[tactic(auto, using(crate::proofs::Judging::holes_once))]
 pub fn generator_has_one_judgement()
     ensures { (job : HolesJob) → HasOneJudgement (holes_job job) }
 {}

@@ -4,7 +4,6 @@ ghost use Rattle.map_homology.specs.declared.map_job.MapJob.{MapJob};
 ghost use Rattle.map_homology.specs.Jobs.{map_job};
 
 /// Each reading is judged in one way.
-#[tactic(auto, using(crate::proofs::Judging::map_once))]
 pub fn map_jobs_have_one_judgement()
     ensures { (job : MapJob) → HasOneJudgement (map_job job) }
 {}

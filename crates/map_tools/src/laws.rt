@@ -4,7 +4,6 @@ ghost use Rattle.map_tools.specs.declared.values_job.ValuesJob.{ValuesJob};
 ghost use Rattle.map_tools.specs.Jobs.{values_job};
 
 /// Each reading is judged in one way.
-#[tactic(auto, using(crate::proofs::Judging::values_once))]
 pub fn values_jobs_have_one_judgement()
     ensures { (job : ValuesJob) → HasOneJudgement (values_job job) }
 {}
