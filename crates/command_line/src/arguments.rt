@@ -97,8 +97,7 @@ fn are_once(settings: &[Setting]) -> bool
 fn agree(settings: &[Setting]) -> bool
     ensures { result ≡ agree settings.now }
 {
-    (settings.len() <= 1 || !has_alone(settings))
-        && !is_amiss(settings)
+    (settings.len() <= 1 || !has_alone(settings)) && !is_amiss(settings)
 }
 
 fn has_alone(settings: &[Setting]) -> bool

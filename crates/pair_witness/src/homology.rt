@@ -44,11 +44,7 @@ fn compute(alloc: Global, job: &PairJob, file: &Name, pair: &TwoSets) -> Result<
 }
 
 // The report on the pair, and the bytes of its witness.
-fn made_of(
-    alloc: Global,
-    modulus: Modulus,
-    pair: &TwoSets,
-) -> Result<(PairReport, Vec<u8>), Fault>
+fn made_of(alloc: Global, modulus: Modulus, pair: &TwoSets) -> Result<(PairReport, Vec<u8>), Fault>
     requires { AreOperands pair.now }
     ensures table { IsModulus modulus }
     ensures made { IsMade modulus pair.now result }

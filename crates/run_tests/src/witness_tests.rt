@@ -13,6 +13,7 @@ const FILES: [(&str, &str); 3] = [("x", "(0)"), ("a", "[(0)(0)] [(1)(1)]"), ("w"
 // An edge relative to its ends, modulo 2 and modulo 3.
 const OF_EDGE: &str = "chomp witness 1\nmod 2\nclaim pair\n\
      pair domain\nz 1: 1*2\nc 1: 1*2\nh 2:\nend\n";
+
 const BY_THREE: &str = "chomp witness 1\nmod 3\nclaim pair\n\
      pair domain\nz 1: 1*2\nc 1: 1*2\nh 2:\nend\n";
 
