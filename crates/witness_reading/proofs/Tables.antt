@@ -1,6 +1,8 @@
 -- The tables of the cells of a pair, as they are made.
-use Rattle.std.proofs.Common.{◌≡◌, ℕ, suc, ◌+◌, refl, sym, ap, ◌∙◌, ⊎_elim, List, [], ◌∷◌, length, map, Bool, true, false, cond, subst}
+use Rattle.std.proofs.Common.{◌≡◌, ℕ, suc, ◌+◌, refl, sym, ap, ◌∙◌, ◌<◌, ◌≤◌, ⊎_elim, List, [], ◌∷◌, ◌++◌, length, map, take, arith, Bool, true, false, cond, subst}
 use Rattle.std.proofs.lemmas.Bool.{cases_Bool}
+use Rattle.std.proofs.lemmas.List.{take_more, map-append, take_all}
+use Rattle.std.proofs.lemmas.List.Elements.{Contains-get_or}
 use Rattle.std.specs.List.{Contains}
 use Rattle.elem_cubes.specs.Cells.{Factor, dimension_of}
 use Rattle.elem_cubes.specs.Order.{cell_cmp}
@@ -42,6 +44,20 @@ same_map f g h (c ∷ cs) = ap (λ (n : ℕ). n ∷ map f cs) (h c) ∙ ap (λ (
 map_by_place : (f : List Factor → ℕ) (cells : List (List Factor)) → map f cells ≡ each (length cells) (λ i. f (cell_at cells i) ∷ [])
 map_by_place f [] = refl
 map_by_place f (c ∷ cs) = ap (λ (l : List ℕ). f c ∷ l) (map_by_place f cs)
+
+-- one cell more
+pub put_more : (f : List Factor → ℕ) (cells : List (List Factor)) (i : ℕ) (xs ys : List ℕ) (n : ℕ) → i < length cells → n ≡ f (cell_at cells i) → ys ≡ xs ++ n ∷ []
+    → xs ≡ map f (take i cells) → ys ≡ map f (take (i + 1) cells)
+put_more f cells i xs ys n l e p h =
+    p ∙ ap (λ (t : List ℕ). t ++ n ∷ []) h ∙ ap (λ (m : ℕ). map f (take i cells) ++ m ∷ []) e
+    ∙ sym (ap (map f) (take_more cells i [] l) ∙ map-append f (take i cells) (cell_at cells i ∷ []))
+
+-- all cells
+pub put_all : (f : List Factor → ℕ) (cells : List (List Factor)) (i : ℕ) (xs : List ℕ) → length cells ≤ i → xs ≡ map f (take i cells) → xs ≡ map f cells
+put_all f cells i xs l h = h ∙ ap (map f) (take_all i cells l)
+
+pub place_inside : (kept all : List (List Factor)) (i : ℕ) → ((q : List Factor) → Contains kept q → Contains all q) → i < length kept → Contains all (cell_at kept i)
+place_inside kept all i h l = h (cell_at kept i) (Contains-get_or kept i [] l)
 
 module _ (x a all kept : List (List Factor)) where
   pub table_told : (table : List ℕ) → all ≡ all_cells x a → kept ≡ relative_cells x a → table ≡ map (kind_among kept) all → table ≡ pair_table x a
