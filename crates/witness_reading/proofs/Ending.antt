@@ -1,6 +1,7 @@
 -- Where the bytes leave the witness of a pair: in its section, or at its end.
-use Rattle.std.proofs.Common.{◌≡◌, ℕ, refl, sym, ap, ◌∙◌, ⊎_elim, List, [], ◌∷◌, ◌++◌, length, get_or, arith, subst, None}
-use Rattle.std.specs.Prelude.{codes}
+use Rattle.std.proofs.Common.{◌≡◌, ℕ, refl, sym, ap, ◌∙◌, ⊎_elim, inr, List, [], ◌∷◌, ◌++◌, length, get_or, arith, subst, true, false}
+use Rattle.std.proofs.lemmas.Bool.{true≢false}
+use Rattle.std.specs.Prelude.{codes, ◌==◌}
 use Rattle.witness_laws.specs.declared.law.Law.{Law}
 use Rattle.witness_laws.specs.declared.law.Law.TheVariants as laws
 use Rattle.witness_laws.specs.Lines.{IsOneLine, domain}
@@ -42,10 +43,15 @@ end_leaves bytes (stops.At left law) = ⊎_elim
     (λ (s : GoesOn bytes (stops.At left law)). told_text End bytes (length (s.first ∷ s.more)) left law s.left_is (behind_end bytes s.first s.more s.split))
 end_leaves bytes stops.NoMemory = λ s. tt
 
+-- what stands behind it is some
+pub goes_on : (bytes behind : List ℕ) → bytes ≡ codes "end\n" ++ behind → (length behind == 0) ≡ false → StopsEnd bytes (stops.At (length behind) laws.Text)
+goes_on bytes [] e h = absurd (true≢false h)
+goes_on bytes (c ∷ cs) e h = inr (record { first = c; more = cs; split = e; left_is = refl })
+
 -- the end does not begin like a cycle, and there is one
 pub end_over : IsOver (λ cs. End)
 end_over cs [] k z = k
-end_over cs (y ∷ ys) k z = let e : 101 ≡ 122 = ap (λ (x : Item). get_or x.text 0 0) (sym k.0) ∙ z in absurd (omega arith)
+end_over cs (y ∷ ys) k z = let e : ◌≡◌ {A = ℕ} 101 122 = ap (λ (x : Item). get_or x.text 0 0) (sym k.0) ∙ z in absurd (omega arith)
 
 pub end_fills : (cs : List (ℕ × List (ℕ × ℕ))) → (ys : List Item) × End ys
 end_fills cs = (word_item (codes "end\n") ∷ [], (refl, tt))

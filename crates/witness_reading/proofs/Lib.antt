@@ -23,4 +23,4 @@ pub mod Splitting
 pub mod Tables
 pub mod Ending
 pub mod Telling
-pub mod Reads
+pub mod PairRead

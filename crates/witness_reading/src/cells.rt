@@ -99,6 +99,7 @@ fn wanted_of(alloc: Global, kept: &Numbered) -> Result<Vec<u8>, AllocError>
 }
 
 /// The cells of a pair.
+#[tactic(auto, using(crate::proofs::Tables::table_told, crate::proofs::Tables::numbers_told, crate::proofs::Tables::wanted_told, witness_writing::proofs::Counting::relative_inside))]
 pub(crate) fn pair_cells(alloc: Global, x: &CubeSet, a: &CubeSet) -> Result<PairCells, AllocError>
     requires agree { dimensions_agree x.now.dimension a.now.dimension ≡ true }
     requires few { length (all_cells x.now.cells a.now.cells) ≤ 4096 }

@@ -4,13 +4,13 @@
 
 mod cells;
 mod ends;
-mod faults;
+mod told;
 mod lines;
 mod pair;
 mod section;
 
 pub use ends::end_due;
-pub use faults::fault_at;
+pub use told::fault_at;
 pub use lines::body;
 pub use pair::read_pair;
 pub use section::read_section;

@@ -8,7 +8,7 @@ ghost use Rattle.witness_reading.specs.Pairs.{pair_given, IsWhole, StopsWhole};
 ghost use Rattle.witness_reading.specs.Reading.{IsRead, IsReadFault};
 
 use crate::ends::end_due;
-use crate::faults::fault_at;
+use crate::told::fault_at;
 use crate::lines::body;
 use crate::section::read_section;
 use cube_sets::CubeSet;

@@ -10,6 +10,7 @@ use Rattle.witness_types.specs.declared.part.PairPart.{PairPart}
 use Rattle.witness_runs.specs.declared.miss.Stop.{Stop}
 use Rattle.section_reading.specs.Section.{degrees_of}
 use Rattle.read_parts.specs.declared.parts.Parts.{Parts}
+use Rattle.read_parts.specs.Values.{parts_value}
 use Rattle.witness_reading.specs.Ends.{IfTold, told_of}
 use Rattle.witness_reading.specs.Pairs.{IsWhole, StopsWhole}
 use Rattle.witness_reading.specs.Reading.{IsRead, IsReadFault}
@@ -20,7 +21,7 @@ use Rattle.witness_reading.proofs.PairWhole.{are_cycles, whole, meets}
 use Rattle.witness_reading.proofs.Ending.{whole_leaves}
 use Rattle.witness_reading.proofs.Telling.{told}
 
-module _ {p : ℕ} (G : Given) (none : G.target ≡ None) (bytes : List ℕ) (ts : List (List ℕ)) (e : lines_of bytes ≡ ts) where
+module _ (p : ℕ) (G : Given) (none : G.target ≡ None) (bytes : List ℕ) (ts : List (List ℕ)) (e : lines_of bytes ≡ ts) where
   in_order : (part : PairPart p) → IsWhole G bytes part → IsInOrder G.top part
   in_order part w =
       let ds : List ℕ = degrees_of part.cycles.items in
@@ -33,9 +34,12 @@ module _ {p : ℕ} (G : Given) (none : G.target ≡ None) (bytes : List ℕ) (ts
         cocycles = w.section.pair.second.run.many ∙ n;
       }
 
-  pub pair_read : (part : PairPart p) → IsWhole G bytes part → IsRead p G ts (record { domain = part; map = None })
+  abbrev parts : PairPart p → Parts p
+  parts part = record { domain = part; map = None }
+
+  pub pair_read : (part : PairPart p) → IsWhole G bytes part → IsRead p G ts (parts part)
   pair_read part w = record {
-    has = subst (λ (l : List (List ℕ)). HasValue (tables_format p G) l _) e
+    has = subst (λ (l : List (List ℕ)). HasValue (tables_format p G) l (parts_value G (parts part))) e
         (whole p G none bytes part.cycles.items part.cocycles.items part.homotopy.items w.rest w.section w.over);
     first = meets p G none bytes part.cycles.items part.cocycles.items part.homotopy.items w.rest w.section w.over;
     order = in_order part w;

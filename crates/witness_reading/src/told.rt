@@ -1,6 +1,6 @@
 //! What is told of the first line that fails.
 ghost use Rattle.std.specs.Prelude.{◌≡◌};
-ghost use Rattle.witness_reading.specs.Ends.{told_of};
+ghost use Rattle.witness_reading.specs.Ends.{line_from, told_of};
 
 use crate::lines::line_count;
 use witness_laws::WitnessFault;
@@ -8,7 +8,9 @@ use witness_runs::Stop;
 
 // The number of the line at the front of the last bytes, of which there are so many. Lines count
 // from 1, and the three of the header stand before.
-fn line_at(bytes: &[u8], left: usize) -> u64 {
+fn line_at(bytes: &[u8], left: usize) -> u64
+    ensures { result ≡ line_from bytes.now left }
+{
     let here = &bytes[bytes.len().saturating_sub(left)..];
     line_count(bytes).saturating_sub(line_count(here)) + 4
 }
