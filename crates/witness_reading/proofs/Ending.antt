@@ -1,5 +1,5 @@
 -- Where the bytes leave the witness of a pair: in its section, or at its end.
-use Rattle.std.proofs.Common.{◌≡◌, ℕ, refl, sym, ap, ◌∙◌, ⊎_elim, inr, List, [], ◌∷◌, ◌++◌, length, get_or, arith, subst, true, false}
+use Rattle.std.proofs.Common.{◌≡◌, ℕ, refl, sym, ap, ◌∙◌, ⊎_elim, inl, inr, List, [], ◌∷◌, ◌++◌, length, get_or, arith, subst, true, false}
 use Rattle.std.proofs.lemmas.Bool.{true≢false}
 use Rattle.std.specs.Prelude.{codes, ◌==◌}
 use Rattle.witness_laws.specs.declared.law.Law.{Law}
@@ -8,9 +8,10 @@ use Rattle.witness_laws.specs.Lines.{IsOneLine, domain}
 use Rattle.witness_laws.specs.Inputs.{Given}
 use Rattle.witness_runs.specs.declared.miss.Stop.{Stop}
 use Rattle.witness_runs.specs.declared.miss.Stop.TheVariants as stops
+use Rattle.section_reading.specs.Section.{StopsSection}
 use Rattle.witness_reading.specs.Kinds.{pair_table, pair_numbers, pair_wanted}
 use Rattle.witness_reading.specs.Ends.{LacksEnd, GoesOn, StopsEnd, IfTold}
-use Rattle.witness_reading.specs.Pairs.{StopsBehind, StopsWhole}
+use Rattle.witness_reading.specs.Pairs.{HasDomain, StopsBehind, StopsWhole}
 use Rattle.witness_reading.proofs.Forms.{Item, texts}
 use Rattle.witness_reading.proofs.Shapes.{word_item}
 use Rattle.witness_reading.proofs.Cycling.{IsOver, FirstIsZ}
@@ -81,3 +82,15 @@ module _ (p : ℕ) (G : Given) (bytes : List ℕ) where
       (section_leaves p G.top table numbers wanted (λ cs. End) end_over end_fills (codes "pair domain\n") bytes (stops.At left law) domain_line)
       (behind (stops.At left law))
   whole_leaves stops.NoMemory = λ s. tt
+
+-- a stop in the section, and one at the end
+pub section_stops : (p : ℕ) (G : Given) (bytes : List ℕ) (stop : Stop) → IfTold (StopsSection p (codes "pair domain\n") G.top (pair_table G.x G.a) (pair_numbers G.x G.a) (pair_wanted G.x G.a) bytes) stop
+    → IfTold (StopsWhole p G bytes) stop
+section_stops p G bytes (stops.At left law) s = inl s
+section_stops p G bytes stops.NoMemory s = tt
+
+pub end_stops : (p : ℕ) (G : Given) (bytes : List ℕ) (stop : Stop) (cycles : List (ℕ × List (ℕ × ℕ))) (cocycles homotopy : List (List (ℕ × ℕ))) (rest : List ℕ)
+    → HasDomain p G bytes cycles cocycles homotopy rest → StopsEnd rest stop → IfTold (StopsWhole p G bytes) stop
+end_stops p G bytes (stops.At left law) cycles cocycles homotopy rest h s =
+    inr (record { cycles = cycles; cocycles = cocycles; homotopy = homotopy; rest = rest; section = h; here = s })
+end_stops p G bytes stops.NoMemory cycles cocycles homotopy rest h s = tt

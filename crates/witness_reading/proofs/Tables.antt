@@ -1,9 +1,10 @@
 -- The tables of the cells of a pair, as they are made.
-use Rattle.std.proofs.Common.{◌≡◌, ℕ, suc, ◌+◌, refl, sym, ap, ◌∙◌, ◌<◌, ◌≤◌, ⊎_elim, List, [], ◌∷◌, ◌++◌, length, map, take, arith, Bool, true, false, cond, subst}
+use Rattle.std.proofs.Common.{◌≡◌, ℕ, suc, ◌+◌, refl, sym, ap, ◌∙◌, ◌<◌, ◌≤◌, ⊎_elim, List, [], ◌∷◌, ◌++◌, ◌-◌, ◌^◌, length, map, take, arith, Bool, true, false, cond, subst}
 use Rattle.std.proofs.lemmas.Bool.{cases_Bool}
-use Rattle.std.proofs.lemmas.List.{take_more, map-append, take_all}
+use Rattle.std.proofs.lemmas.List.{take_more, map-append, take_all, length-map}
 use Rattle.std.proofs.lemmas.List.Elements.{Contains-get_or}
 use Rattle.std.specs.List.{Contains}
+use Rattle.std.specs.Prelude.{Result, Ok, Err, IfErr}
 use Rattle.elem_cubes.specs.Cells.{Factor, dimension_of}
 use Rattle.elem_cubes.specs.Order.{cell_cmp}
 use Rattle.elem_cubes.specs.Laws.{cell_at}
@@ -15,6 +16,9 @@ use Rattle.cell_complex.specs.Numbering.{number_of}
 use Rattle.witness_laws.specs.Lines.{each}
 use Rattle.witness_laws.specs.Inputs.{all_cells, relative_cells}
 use Rattle.witness_laws.proofs.Naming.{relative_listing}
+use Rattle.witness_runs.specs.declared.miss.Stop.{Stop}
+use Rattle.witness_runs.specs.declared.miss.Stop.TheVariants as stops
+use Rattle.witness_reading.specs.Ends.{IfTold}
 use Rattle.witness_reading.specs.Kinds.{kind_among, pair_table, pair_numbers, pair_wanted}
 
 pub kind_some : (kept : List (List Factor)) (q : List Factor) → Contains kept q → kind_among kept q ≡ suc (dimension_of q)
@@ -73,3 +77,27 @@ module _ (x a all kept : List (List Factor)) where
   pub wanted_told : (wanted : List ℕ) → kept ≡ relative_cells x a → wanted ≡ map (λ q. suc (dimension_of q + 1)) kept → wanted ≡ pair_wanted x a
   wanted_told wanted f h =
       h ∙ ap (λ (l : List (List Factor)). map (λ q. suc (dimension_of q + 1)) l) f ∙ map_by_place (λ q. suc (dimension_of q + 1)) (relative_cells x a)
+
+  -- they are short, and as many as one another
+  pub table_short : (table : List ℕ) → all ≡ all_cells x a → length (all_cells x a) ≤ 4096 → table ≡ map (kind_among kept) all → length table < 2 ^ 32 - 1
+  table_short table e few h =
+      let a1 : length table ≡ length (map (kind_among kept) all) = ap length h in
+      let a2 : length (map (kind_among kept) all) ≡ length all = length-map all (kind_among kept) in
+      let a3 : length all ≡ length (all_cells x a) = ap length e in
+      let a4 : length table ≤ 4096 = omega arith in
+      omega (arith, a4)
+
+  pub as_many : (numbers wanted : List ℕ) → numbers ≡ map (λ q. suc (number_of all q)) kept → wanted ≡ map (λ q. suc (dimension_of q + 1)) kept → length wanted ≡ length numbers
+  as_many numbers wanted h k =
+      ap length k ∙ length-map kept (λ q. suc (dimension_of q + 1)) ∙ sym (ap length h ∙ length-map kept (λ q. suc (number_of all q)))
+
+-- what holds of three lists holds of the same lists
+pub all_three : (F : List ℕ → List ℕ → List ℕ → Type 0) (t n w u m v : List ℕ) → t ≡ u → n ≡ m → w ≡ v → F t n w → F u m v
+all_three F t n w u m v e f g h =
+    subst (λ (l : List ℕ). F u m l) g (subst (λ (l : List ℕ). F u l w) f (subst (λ (l : List ℕ). F l n w) e h))
+
+-- a stop is told as it is
+pub if_told : {A : Type 0} (r : Result A Stop) (S : Stop → Type 0) → IfErr r S → IfErr r (IfTold S)
+if_told (Ok v) S h = tt
+if_told (Err (stops.At left law)) S h = h
+if_told (Err stops.NoMemory) S h = tt

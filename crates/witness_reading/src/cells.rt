@@ -1,5 +1,5 @@
 //! The cells of a pair by the numbers that a file has for them.
-ghost use Rattle.std.specs.Prelude.{◌≡◌, ◌+◌, ◌≤◌, ◌<◌, suc, true, List, length, map, IfOk};
+ghost use Rattle.std.specs.Prelude.{◌≡◌, ◌+◌, ◌-◌, ◌^◌, ◌≤◌, ◌<◌, suc, true, List, length, map, IfOk};
 ghost use Rattle.std.specs.List.{Contains};
 ghost use Rattle.elem_cubes.specs.Cells.{Factor, dimension_of};
 ghost use Rattle.cube_sets.specs.Sets.{dimensions_agree};
@@ -99,13 +99,14 @@ fn wanted_of(alloc: Global, kept: &Numbered) -> Result<Vec<u8>, AllocError>
 }
 
 /// The cells of a pair.
-#[tactic(auto, using(crate::proofs::Tables::table_told, crate::proofs::Tables::numbers_told, crate::proofs::Tables::wanted_told, witness_writing::proofs::Counting::relative_inside))]
 pub(crate) fn pair_cells(alloc: Global, x: &CubeSet, a: &CubeSet) -> Result<PairCells, AllocError>
     requires agree { dimensions_agree x.now.dimension a.now.dimension ≡ true }
     requires few { length (all_cells x.now.cells a.now.cells) ≤ 4096 }
     ensures table { IfOk result (λ c. c.table.items ≡ pair_table x.now.cells a.now.cells) }
     ensures numbers { IfOk result (λ c. c.numbers.items ≡ pair_numbers x.now.cells a.now.cells) }
     ensures wanted { IfOk result (λ c. c.wanted.items ≡ pair_wanted x.now.cells a.now.cells) }
+    ensures short { IfOk result (λ c. length c.table.items < 2 ^ 32 - 1) }
+    ensures beside { IfOk result (λ c. length c.wanted.items ≡ length c.numbers.items) }
 {
     let set = both(alloc, x, a)?;
     let all = faces(alloc, &set)?;

@@ -4,13 +4,13 @@
 
 mod cells;
 mod ends;
-mod told;
 mod lines;
 mod pair;
 mod section;
+mod told;
 
 pub use ends::end_due;
-pub use told::fault_at;
 pub use lines::body;
 pub use pair::read_pair;
 pub use section::read_section;
+pub use told::fault_at;

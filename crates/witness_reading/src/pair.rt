@@ -8,9 +8,9 @@ ghost use Rattle.witness_reading.specs.Pairs.{pair_given, IsWhole, StopsWhole};
 ghost use Rattle.witness_reading.specs.Reading.{IsRead, IsReadFault};
 
 use crate::ends::end_due;
-use crate::told::fault_at;
 use crate::lines::body;
 use crate::section::read_section;
+use crate::told::fault_at;
 use cube_sets::CubeSet;
 use field_mod::Field;
 use read_parts::Parts;
@@ -45,9 +45,11 @@ fn pair_due<const P: u16>(
     ensures ok { IfOk result (IsWhole (pair_given x.now a.now) bytes.now) }
     ensures err { IfErr result (IfTold (StopsWhole P (pair_given x.now a.now) bytes.now)) }
 {
-    let (part, rest) = read_section(alloc, field, bytes, b"pair domain\n", x, a, known(x, a))?;
-    match end_due(rest) {
-        Ok(()) => Ok(part),
+    match read_section(alloc, field, bytes, b"pair domain\n", x, a, known(x, a)) {
+        Ok((part, rest)) => match end_due(rest) {
+            Ok(()) => Ok(part),
+            Err(end) => Err(end),
+        },
         Err(stop) => Err(stop),
     }
 }
