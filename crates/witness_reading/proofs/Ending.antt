@@ -4,7 +4,7 @@ use Rattle.std.proofs.lemmas.Bool.{true≢false}
 use Rattle.std.specs.Prelude.{codes, ◌==◌}
 use Rattle.witness_laws.specs.declared.law.Law.{Law}
 use Rattle.witness_laws.specs.declared.law.Law.TheVariants as laws
-use Rattle.witness_laws.specs.Lines.{IsOneLine, domain}
+use Rattle.witness_laws.specs.Lines.{IsOneLine}
 use Rattle.witness_laws.specs.Inputs.{Given}
 use Rattle.witness_runs.specs.declared.miss.Stop.{Stop}
 use Rattle.witness_runs.specs.declared.miss.Stop.TheVariants as stops
@@ -12,12 +12,12 @@ use Rattle.section_reading.specs.Section.{StopsSection}
 use Rattle.witness_reading.specs.Kinds.{pair_table, pair_numbers, pair_wanted}
 use Rattle.witness_reading.specs.Ends.{LacksEnd, GoesOn, StopsEnd, IfTold}
 use Rattle.witness_reading.specs.Pairs.{HasDomain, StopsBehind, StopsWhole}
-use Rattle.witness_reading.proofs.Forms.{Item, texts}
+use Rattle.witness_reading.proofs.Forms.{Item}
 use Rattle.witness_reading.proofs.Shapes.{word_item}
-use Rattle.witness_reading.proofs.Cycling.{IsOver, FirstIsZ}
+use Rattle.witness_reading.proofs.Cycling.{IsOver}
 use Rattle.witness_reading.proofs.Places.{StopsAt}
 use Rattle.witness_reading.proofs.Leaving.{Leaves}
-use Rattle.witness_reading.proofs.Sections.{Section, section_step}
+use Rattle.witness_reading.proofs.Sections.{section_step}
 use Rattle.witness_reading.proofs.Parting.{LeavesBy, by_step, section_leaves}
 use Rattle.witness_reading.proofs.PairForm.{End, PairForm}
 use Rattle.witness_reading.proofs.PairFaults.{no_end, behind_end}

@@ -1,5 +1,5 @@
 -- The witness of a pair that is read, whole or up to its first fault.
-use Rattle.std.proofs.Common.{◌≡◌, ℕ, refl, sym, ap, ◌∙◌, arith, List, length, subst, None}
+use Rattle.std.proofs.Common.{◌≡◌, ℕ, ◌∙◌, arith, List, length, subst, None}
 use Rattle.std.proofs.lemmas.List.{length-map}
 use Rattle.witness_laws.specs.Lines.{lines_of}
 use Rattle.witness_laws.specs.Formats.{HasValue}

@@ -1,7 +1,7 @@
 -- A text is split at its line feeds, one byte behind the other.
-use Rattle.std.proofs.Common.{◌≡◌, ℕ, suc, ◌+◌, ◌<◌, ◌≤◌, refl, sym, ap, ◌∙◌, arith, List, [], ◌∷◌, ◌++◌, length, get_or, take, drop, Bool, true, false, cond, subst, drop-cons, add-one}
+use Rattle.std.proofs.Common.{◌≡◌, ℕ, ◌+◌, ◌<◌, refl, ap, ◌∙◌, arith, List, [], ◌∷◌, ◌++◌, length, get_or, drop, Bool, true, false, cond, drop-cons, add-one}
 use Rattle.std.specs.Prelude.{◌==◌}
-use Rattle.witness_laws.specs.Lines.{lines_of, lines_behind, last_line}
+use Rattle.witness_laws.specs.Lines.{lines_of, lines_behind}
 
 -- a line has begun
 abbrev pub begun : List ℕ → Bool

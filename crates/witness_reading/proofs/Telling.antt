@@ -1,5 +1,5 @@
 -- What is told of the first failing line, from where the bytes leave a form.
-use Rattle.std.proofs.Common.{◌≡◌, ℕ, ◌+◌, ◌-◌, ◌⊎◌, inl, inr, refl, sym, ap, ◌∙◌, arith, List, [], ◌∷◌, ◌++◌, length, drop, subst}
+use Rattle.std.proofs.Common.{◌≡◌, ℕ, ◌+◌, ◌-◌, ◌⊎◌, inl, inr, refl, ap, ◌∙◌, arith, List, [], ◌∷◌, ◌++◌, length, drop, subst}
 use Rattle.std.proofs.lemmas.List.{length-append}
 use Rattle.witness_laws.specs.declared.law.Law.{Law}
 use Rattle.witness_laws.specs.declared.law.Law.TheVariants as laws

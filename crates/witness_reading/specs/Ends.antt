@@ -1,5 +1,5 @@
 -- The last line, and which line it is that fails.
-use Rattle.std.specs.Prelude.{◌≡◌, ℕ, ◌+◌, ◌-◌, ◌⊎◌, List, [], ◌∷◌, ◌++◌, length, drop, codes}
+use Rattle.std.specs.Prelude.{◌≡◌, ℕ, ◌+◌, ◌-◌, ◌⊎◌, List, ◌∷◌, ◌++◌, length, drop, codes}
 use Rattle.witness_laws.specs.declared.law.Law.TheVariants as laws
 use Rattle.witness_laws.specs.declared.law.WitnessFault.{WitnessFault}
 use Rattle.witness_laws.specs.declared.law.WitnessFault.TheVariants as faults
