@@ -1,1 +1,4 @@
+pub mod Given
 pub mod Testing
+pub mod Sides
+pub mod Claims
