@@ -5,3 +5,6 @@ pub mod Sided
 pub mod Rows
 pub mod Small
 pub mod Claiming
+pub mod Values
+pub mod Whole
+pub mod Tested

@@ -2,7 +2,7 @@
 use Rattle.std.proofs.Common.{◌≡◌, ℕ, zero, suc, ◌+◌, ◌*◌, ◌<◌, ◌≤◌, refl, sym, ap, ◌∙◌, subst, arith, List, [], ◌∷◌, length, get_or, map, cond, eqb, eq-eqb, ne_eqb}
 use Rattle.std.specs.Prelude.{Bool, true, false}
 use Rattle.std.proofs.lemmas.List.{length-map, get_or-map}
-use native.Mathlib.Nat.{mul-le-mul_right}
+use Rattle.std.proofs.lemmas.Nat.{mul-add-lt}
 use Rattle.elem_cubes.specs.Cells.{Factor}
 use Rattle.homology_basis.specs.Bases.{in_degree}
 use Rattle.leray_conley.specs.Tables.{Table, entry}
@@ -11,7 +11,7 @@ use Rattle.witness_laws.specs.declared.law.WitnessFault.{WitnessFault}
 use Rattle.witness_laws.specs.declared.law.WitnessFault.TheVariants.{At, NoMemory}
 use Rattle.witness_laws.specs.Lines.{Line, row, each}
 use Rattle.witness_laws.specs.Inputs.{Given, all_cells}
-use Rattle.witness_laws.specs.Parts.{range_cells}
+use Rattle.witness_laws.specs.Parts.{range_cells, AreMatrices}
 use Rattle.witness_laws.specs.Tables.{PairTables, MapTables, Tables, holds}
 use Rattle.witness_types.specs.Parts.{beside, degrees_of, pair_tables}
 use Rattle.witness_types.specs.Rows.{row_of, rows_of}
@@ -31,9 +31,26 @@ use Rattle.witness_testing.proofs.Runs.{passed_none}
 -- an entry is below the modulus
 pub entry_below : (p : ℕ) (t : Table) → AreRows p t → (r s : ℕ) → r < t.rows → s < t.columns → entry t r s < p
 entry_below p t w r s lr ls =
-    let q : suc r * t.columns ≤ t.rows * t.columns = mul-le-mul_right t.columns (omega (arith, lr)) in
-    let e : suc r * t.columns ≡ t.columns + r * t.columns = omega arith in
-    w.below (r * t.columns + s) (let c = w.count in omega (arith, c, q, e, ls))
+    let q : r * t.columns + s < t.columns * t.rows = mul-add-lt r t.columns s t.rows lr ls in
+    let e : t.columns * t.rows ≡ t.rows * t.columns = omega arith in
+    w.below (r * t.columns + s) (let c = w.count in omega (arith, c, q, e))
+
+module _ {p : ℕ} (top : ℕ) (m : ReadMap p) (k : ℕ) (t : Table) (is : t ≡ get_or m.rows.items k t) (inside : k < length m.rows.items) where
+  pub table_rows : get_or (map rows_of m.rows.items) k [] ≡ rows_of t
+  table_rows = get_or-map rows_of m.rows.items k t [] inside ∙ ap rows_of (sym is)
+
+module _ {p : ℕ} (top : ℕ) (part : PairPart p) (m : ReadMap p)
+    (w : AreMatrices p top (λ k. length (in_degree (pair_tables top m.range).cycles k)) (λ k. length (in_degree (pair_tables top part).cycles k)) (map rows_of m.rows.items))
+    (k : ℕ) (t : Table) (is : t ≡ get_or m.rows.items k t) (inside : k < length m.rows.items) where
+  pub table_height : t.rows ≡ length (in_degree (pair_tables top m.range).cycles k)
+  table_height = sym (length_each t.rows (row_of t)) ∙ ap length (sym (table_rows top m k t is inside)) ∙ w.rows k
+
+  pub table_width : 0 < t.rows → t.columns ≡ length (in_degree (pair_tables top part).cycles k)
+  table_width some =
+      sym (length_each t.columns (λ s. entry t 0 s))
+      ∙ ap length (sym (each_at t.rows (row_of t) 0 [] some))
+      ∙ ap (λ (ms : List (List ℕ)). length (get_or ms 0 [])) (sym (table_rows top m k t is inside))
+      ∙ w.columns k 0 (let e = table_height in omega (arith, e, some))
 
 module _ {p : ℕ} (D R K : List (List Factor)) (us : List (List (ℕ × ℕ))) (top : ℕ) (part : PairPart p) (m : ReadMap p) where
   abbrev S : PairTables
@@ -77,10 +94,10 @@ module _ {p : ℕ} (D R K : List (List Factor)) (us : List (List (ℕ × ℕ))) 
       inside = let e = tables_count G w in omega (arith, e, lk)
 
       rows_are : get_or M.matrices k [] ≡ rows_of t
-      rows_are = get_or-map rows_of m.rows.items k t [] inside ∙ ap rows_of (sym is)
+      rows_are = table_rows top m k t is inside
 
       height : t.rows ≡ length (in_degree (pair_tables top m.range).cycles k)
-      height = sym (length_each t.rows (row_of t)) ∙ ap length (sym rows_are) ∙ w.matrices.rows k
+      height = table_height top part m w.matrices k t is inside
 
       pub cocycles_many : (cs : List (List (ℕ × ℕ))) → AreRead p R K (beside k (degrees_of m.range.cycles.items) m.range.cocycles.items) cs → t.rows ≤ length cs
       cocycles_many cs r =
@@ -88,13 +105,6 @@ module _ {p : ℕ} (D R K : List (List Factor)) (us : List (List (ℕ × ℕ))) 
           let f = beside-sizes k (degrees_of m.range.cycles.items) m.range.cocycles.items (map (λ z. z.1) m.range.cycles.items) (w.sizes ∙ sym (length-map m.range.cycles.items (λ z. z.1))) in
           let c = r.count in
           omega (arith, e, f, c)
-
-      width : 0 < t.rows → t.columns ≡ length (in_degree S.cycles k)
-      width some =
-          sym (length_each t.columns (λ s. entry t 0 s))
-          ∙ ap length (sym (each_at t.rows (row_of t) 0 [] some))
-          ∙ ap (λ (ms : List (List ℕ)). length (get_or ms 0 [])) (sym rows_are)
-          ∙ w.matrices.columns k 0 (let e = height in omega (arith, e, some))
 
       are_rows : (zd rows cs : List (List (ℕ × ℕ))) (n : ℕ) → AreRead p D D (beside k ds zs) zd → n ≡ length K → length rows ≡ n → AreProducts p n us zd rows
           → AreRead p R K (beside k (degrees_of m.range.cycles.items) m.range.cocycles.items) cs → AreRows p t → 0 < t.rows → AreRowsOf p t us zd rows cs k G W
@@ -107,7 +117,7 @@ module _ {p : ℕ} (D R K : List (List Factor)) (us : List (List (ℕ × ℕ))) 
         cocycles = subst (λ (u : List (List Factor)). AreRead p u (target_cells G) (in_degree M.range.cocycles k) cs) w.all
             (subst (λ (u : List (List Factor)). AreRead p R u (in_degree M.range.cocycles k) cs) w.relative (subst (λ (xs : List (List (ℕ × ℕ))). AreRead p R K xs cs) (sym cocycles_are) rc));
         table = sym rows_are;
-        width = width some;
+        width = table_width top part m w.matrices k t is inside some;
         below = entry_below p t whole;
       }
 

@@ -6,9 +6,10 @@ use Rattle.witness_laws.specs.declared.law.WitnessFault.{WitnessFault}
 use Rattle.witness_laws.specs.declared.law.WitnessFault.TheVariants.{At, NoMemory}
 use Rattle.witness_laws.specs.Formats.{Format, MeetsBefore, MeetsLaws, line_at}
 use Rattle.witness_laws.specs.Inputs.{Given}
-use Rattle.witness_laws.specs.Tables.{Tables, map_of, tables_format}
+use Rattle.witness_laws.specs.Tables.{Tables, map_of, holds, lines_of_tables, tables_format}
 use Rattle.witness_types.specs.declared.part.Claim.{Claim}
 use Rattle.witness_types.specs.Answers.{IsClaimWith}
+use Rattle.witness_sections.specs.Outcomes.{Meet}
 
 -- line k of the value is the first that fails in the second pass, and the law is the first that it
 -- fails by
@@ -30,3 +31,7 @@ pub record IsTested {p : ℕ} (G : Given) (W : Tables) (claim : Claim p) : Type 
   pub meets : MeetsLaws (tables_format p G) W
   pub claimed : IsClaimWith claim (map length W.domain.cycles)
       (map length (map_of W).range.cycles) (map_of W).matrices
+
+-- all lines of the value meet the laws of the second pass
+abbrev pub MeetsAll : ℕ → Given → Tables → Type 0
+MeetsAll p G W = Meet (holds p G W) (lines_of_tables W)
