@@ -1,7 +1,7 @@
 -- The dimensions and the matrices of a claim.
-use Rattle.std.proofs.Common.{◌≡◌, ℕ, suc, ◌+◌, ◌*◌, ◌<◌, ◌≤◌, refl, sym, ap, ◌∙◌, subst, arith, ⊎_elim, List, [], ◌∷◌, ◌++◌, length, length-append, get_or, map, take, drop, cond, eqb, eq-eqb, ne_eqb, Bool, true, false}
+use Rattle.std.proofs.Common.{◌≡◌, ℕ, suc, ◌+◌, ◌*◌, ◌<◌, ◌≤◌, refl, sym, ap, ◌∙◌, subst, arith, ⊎_elim, List, [], ◌∷◌, ◌++◌, length, length-append, get_or, map, take, drop, remove, cond, eqb, eq-eqb, ne_eqb, Bool, true, false}
 use Rattle.std.proofs.lemmas.Bool.{cases_lt}
-use Rattle.std.proofs.lemmas.List.{length-map, get_or-map, map-append, get_or_append_left, get_or_default, take_all}
+use Rattle.std.proofs.lemmas.List.{length-map, get_or-map, map-append, get_or_append_left, get_or_default, take_all, drop_more}
 use Rattle.std.proofs.Math.Seq.{get_or-append_seam}
 use Rattle.std.proofs.lemmas.Nat.{mul-le}
 use Rattle.leray_conley.specs.Tables.{Table}
@@ -63,7 +63,7 @@ pub made_same : (t m : Table) (columns : ℕ) → t.columns ≡ columns → m.ro
 made_same t m columns e f g h = let same : m ≡ t = λ i. record { rows = f i; columns = g i; entries = h i } in record { rows = f; width = g ∙ e; entries = ap rows_of same }
 
 pub product_small : (r c : ℕ) → r ≤ 4096 → c ≤ 4096 → r * c ≤ 16777216
-product_small r c l m = let q = mul-le r 4096 c 4096 l m in omega (arith, q)
+product_small r c l m = let q = mul-le r c 4096 4096 l m in omega (arith, q)
 
 pub made_none : (tables : List Table) (columns : List ℕ) (ms : List Table) → ms ≡ [] → AreMadeOf tables columns 0 ms
 made_none tables columns ms e = record { count = ap length e; each = λ k t l. absurd (omega (arith, l)) }
@@ -93,3 +93,11 @@ claimed claim tables dims others ed er sizes high made = record {
     entries = w.entries ∙ sym (get_or-map rows_of tables k t [] lt);
   };
 }
+
+-- ---- the tables that are left
+
+pub first_left : (tables left : List Table) (i : ℕ) (t : Table) → i < length tables → left ≡ drop i tables → t ≡ get_or left 0 t → t ≡ get_or tables i t
+first_left tables left i t l e f = f ∙ ap (λ (ys : List Table). get_or ys 0 t) (e ∙ drop_more tables i t l)
+
+pub rest_left : (tables left new : List Table) (i : ℕ) (t : Table) → i < length tables → left ≡ drop i tables → new ≡ remove left 0 → new ≡ drop (i + 1) tables
+rest_left tables left new i t l e f = f ∙ ap (λ (ys : List Table). remove ys 0) (e ∙ drop_more tables i t l)

@@ -8,3 +8,4 @@ pub mod Claiming
 pub mod Values
 pub mod Whole
 pub mod Tested
+pub mod Cases

@@ -2,7 +2,7 @@
 use Rattle.std.proofs.Common.{◌≡◌, ℕ, zero, suc, ◌+◌, ◌<◌, ◌≤◌, refl, sym, ap, ◌∙◌, subst, arith, List, [], ◌∷◌, ◌++◌, append_assoc, length, get_or, map, ⊎_elim, ◌*◌, Bool, true, false, cond, eqb, eq-eqb}
 use Rattle.field_mod.specs.Sums.{total}
 use Rattle.field_mod.proofs.Sums.{total-same, total-zero, total-add, total-single, total-beside}
-use Rattle.std.proofs.lemmas.Bool.{cases_lt}
+use Rattle.std.proofs.lemmas.Bool.{cases_lt, false≢true}
 use Rattle.witness_laws.specs.Lines.{each}
 use Rattle.witness_types.specs.Parts.{beside}
 
@@ -44,18 +44,15 @@ in_beside k (d ∷ ds) (x ∷ xs) zero l m e = here (eqb d k) (eq-eqb d k e)
 
     here : (b : Bool) → b ≡ true → (j : ℕ) × (j < length (cond b (x ∷ us) us)) × (get_or (cond b (x ∷ us) us) j [] ≡ x)
     here true h = (0, omega arith, refl)
-    here false h = absurd (omega (arith, h))
-in_beside k (d ∷ ds) (x ∷ xs) (suc i) l m e = later (eqb d k)
+    here false h = absurd (false≢true h)
+in_beside k (d ∷ ds) (x ∷ xs) (suc i) l m e = later (eqb d k) (in_beside k ds xs i (omega (arith, l)) (omega (arith, m)) e)
   where
     us : List (List (ℕ × ℕ))
     us = beside k ds xs
 
-    w : (j : ℕ) × (j < length us) × (get_or us j [] ≡ get_or xs i [])
-    w = in_beside k ds xs i (omega (arith, l)) (omega (arith, m)) e
-
-    later : (b : Bool) → (j : ℕ) × (j < length (cond b (x ∷ us) us)) × (get_or (cond b (x ∷ us) us) j [] ≡ get_or xs i [])
-    later true = (suc w.0, omega (arith, w.1), w.2)
-    later false = w
+    later : (b : Bool) → (j : ℕ) × (j < length us) × (get_or us j [] ≡ get_or xs i []) → (j : ℕ) × (j < length (cond b (x ∷ us) us)) × (get_or (cond b (x ∷ us) us) j [] ≡ get_or xs i [])
+    later true w = (suc w.0, omega (arith, w.1), w.2)
+    later false w = w
 
 -- all of them are no more than there are
 at_most : (n d : ℕ) → total n (λ k. cond (eqb d k) 1 0) ≤ 1

@@ -1,7 +1,9 @@
 -- What was read names cells of the file, since its lines meet the law of the first pass.
-use Rattle.std.proofs.Common.{◌≡◌, ℕ, zero, suc, ◌+◌, ◌<◌, ◌≤◌, ◌^◌, inl, inr, refl, sym, ap, ◌∙◌, subst, arith, List, [], ◌∷◌, length, get_or, map}
+use Rattle.std.proofs.Common.{◌≡◌, ℕ, zero, suc, ◌+◌, ◌<◌, ◌≤◌, ◌^◌, inl, inr, refl, sym, ap, ◌∙◌, subst, arith, List, [], ◌∷◌, length, get_or, map, true}
 use Rattle.std.proofs.lemmas.List.{length-map}
-use Rattle.elem_cubes.specs.Cells.{Factor}
+use Rattle.elem_cubes.specs.Cells.{Factor, dimension_of}
+use Rattle.elem_cubes.specs.Laws.{cell_at}
+use Rattle.cell_complex.specs.RelativeComplex.{is_relative}
 use Rattle.elem_cubes.proofs.Members.{In}
 use Rattle.homology_basis.specs.Bases.{in_degree}
 use Rattle.witness_laws.specs.Lines.{Side, Line, cycle, cocycle, homotopy, end}
@@ -39,14 +41,17 @@ module _ (p : ℕ) (G : Given) (W : Tables) (first : MeetsFirst (tables_format p
   abbrev cells : List (List Factor)
   cells = all_cells (x_of G side) (a_of G side)
 
+  abbrev Kind : ℕ → List Factor → Type 0
+  Kind k q = (is_relative (x_of G side) (a_of G side) q ≡ true) × (dimension_of q ≡ k)
+
   pub cycle_named : (k i : ℕ) → k < length S.cycles → i < length (in_degree S.cycles k) → IsNamed (length cells) (nth (in_degree S.cycles k) i)
-  cycle_named k i l m = named_of cells _ (nth (in_degree S.cycles k) i) (first_at (tables_format p G) W first (cycle side k i) (reach (cycle side k i) (in_cycles side S k i l m)))
+  cycle_named k i l m = named_of cells (Kind k) (nth (in_degree S.cycles k) i) (first_at (tables_format p G) W first (cycle side k i) (reach (cycle side k i) (in_cycles side S k i l m)))
 
   pub cocycle_named : (k i : ℕ) → k < length S.cycles → i < length (in_degree S.cycles k) → IsNamed (length cells) (nth (in_degree S.cocycles k) i)
-  cocycle_named k i l m = named_of cells _ (nth (in_degree S.cocycles k) i) (first_at (tables_format p G) W first (cocycle side k i) (reach (cocycle side k i) (in_cocycles side S k i l m)))
+  cocycle_named k i l m = named_of cells (Kind k) (nth (in_degree S.cocycles k) i) (first_at (tables_format p G) W first (cocycle side k i) (reach (cocycle side k i) (in_cocycles side S k i l m)))
 
   pub homotopy_named : (i : ℕ) → i < length S.homotopies → IsNamed (length cells) (nth S.homotopies i)
-  homotopy_named i l = named_of cells _ (nth S.homotopies i) (first_at (tables_format p G) W first (homotopy side i) (reach (homotopy side i) (in_homotopies side S i l)))
+  homotopy_named i l = named_of cells (Kind (dimension_of (cell_at (relative_cells (x_of G side) (a_of G side)) i) + 1)) (nth S.homotopies i) (first_at (tables_format p G) W first (homotopy side i) (reach (homotopy side i) (in_homotopies side S i l)))
 
 -- chains of a list, where those of each degree name cells
 flat_named : (n top : ℕ) (ds : List ℕ) (xs : List (List (ℕ × ℕ))) → length ds ≡ length xs → ((i : ℕ) → i < length xs → get_or ds i 0 ≤ top)

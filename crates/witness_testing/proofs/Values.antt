@@ -3,7 +3,9 @@ use Rattle.std.proofs.Common.{◌≡◌, ℕ, zero, suc, ◌+◌, ◌*◌, ◌<�
 use Rattle.std.proofs.lemmas.Bool.{cases_lt}
 use Rattle.std.proofs.lemmas.List.{length-map, get_or_past}
 use Rattle.field_mod.specs.Sums.{total}
-use Rattle.elem_cubes.specs.Cells.{Factor}
+use Rattle.std.specs.List.{Contains}
+use Rattle.elem_cubes.specs.Cells.{Factor, dimension_of}
+use Rattle.elem_cubes.specs.Laws.{cell_at}
 use Rattle.elem_cubes.proofs.Members.{In}
 use Rattle.cube_sets.specs.Sets.{Members}
 use Rattle.cube_sets.specs.Closures.{cells_of, is_cell_of}
@@ -14,12 +16,12 @@ use Rattle.cell_complex.specs.Numbering.{IsOfPair, IsComplexOf}
 use Rattle.acyclic_values.proofs.Cells.{cells_listing}
 use Rattle.acyclic_values.specs.Values.{in_value}
 use Rattle.map_checks.specs.Faults.{together, HasNoSetFault}
-use Rattle.witness_laws.specs.Lines.{Line, vertex, filling, image, range as range_side}
+use Rattle.witness_laws.specs.Lines.{Line, vertex, filling, image, domain as domain_side, range as range_side}
 use Rattle.witness_laws.specs.Formats.{MeetsFirst}
-use Rattle.witness_laws.specs.Inputs.{Given, all_cells}
+use Rattle.witness_laws.specs.Inputs.{Given, all_cells, relative_cells}
 use Rattle.witness_laws.specs.Parts.{nth, value_at, range_cells, cell_of}
 use Rattle.witness_laws.specs.Tables.{Tables, MapTables, IsTables, IsMapTables, value_lines, lines_of_tables, tables_format}
-use Rattle.witness_laws.proofs.Reaching.{in_vertices, in_fillings, in_images, in_values}
+use Rattle.witness_laws.proofs.Reaching.{in_vertices, in_fillings, in_images, in_domain, in_range, in_values}
 use Rattle.witness_types.specs.declared.part.PairPart.{PairPart}
 use Rattle.witness_sections.specs.Readings.{AreRead, IsNamed, AreNamed}
 use Rattle.witness_values.specs.declared.cells.MapSides.{MapSides}
@@ -27,8 +29,9 @@ use Rattle.witness_values.specs.Cells.{AreSidesOf, HasWitness, chains_at, cell_l
 use Rattle.read_parts.specs.declared.parts.ReadMap.{ReadMap}
 use Rattle.read_parts.specs.Values.{read_tables, AreTestable}
 use Rattle.witness_testing.specs.Given.{map_given, map_value, map_parts}
-use Rattle.witness_testing.specs.Sides.{AreSides}
-use Rattle.witness_testing.proofs.Named.{named_of, none_named, first_at}
+use Rattle.witness_testing.specs.Sides.{IsRowWitness}
+use Rattle.witness_testing.specs.Mapped.{AreSides}
+use Rattle.witness_testing.proofs.Named.{named_of, none_named, first_at, cycles_named, cocycles_named}
 use Rattle.witness_testing.proofs.Small.{filter_short, total_bound}
 
 -- all cells of a set are those of a pair
@@ -71,7 +74,7 @@ module _ {p : ℕ} (mp : Mapping) (x a y b : Members) (part : PairPart p) (m : R
 
   image_named : (i : ℕ) → IsNamed (length rs) (nth M.images i)
   image_named i = ⊎_elim
-      (λ l. named_of rs _ (nth M.images i) (first_at (tables_format p G) W t.first (image i) (reach (image i) (in_images M i l))))
+      (λ l. named_of rs (λ q. dimension_of q ≡ dimension_of (cell_of G i)) (nth M.images i) (first_at (tables_format p G) W t.first (image i) (reach (image i) (in_images M i l))))
       (λ past. subst (IsNamed (length rs)) (sym (get_or_past M.images i [] past)) (none_named (length rs)))
       (cases_lt i (length M.images))
 
@@ -79,7 +82,7 @@ module _ {p : ℕ} (mp : Mapping) (x a y b : Members) (part : PairPart p) (m : R
   images_named i l = image_named i
 
   filling_named : (i : ℕ) → i < length ds → AreNamed (length rs) (get_or M.fillings i [])
-  filling_named i l j lj = named_of rs _ (nth (get_or M.fillings i []) j)
+  filling_named i l j lj = named_of rs (λ q. Contains (value_at G i) q × (dimension_of q ≡ dimension_of (cell_at (value_at G i) j) + 1)) (nth (get_or M.fillings i []) j)
       (first_at (tables_format p G) W t.first (filling i j) (reach (filling i j) (in_fillings M i j (let e = mt.images in omega (arith, e, l)) lj)))
 
   module _ (s : MapSides p) (set D R : List (List Factor)) (us : List (List (ℕ × ℕ))) (q : AreSides D R us s) (eu : us ≡ m.images.items) (es : set ≡ together x.cells a.cells) (ed : D ≡ ds) (er : R ≡ rs) where
@@ -128,3 +131,17 @@ module _ {p : ℕ} (mp : Mapping) (x a y b : Members) (part : PairPart p) (m : R
         omega (arith, e, f, fr)) in
         let d = ap length domain_is in
         omega (arith, a, d, fd)
+
+    pub row_witness : (S K : List (List Factor)) (vs ws : List (List (ℕ × ℕ))) → S ≡ rs → K ≡ relative_cells y.cells b.cells → vs ≡ m.images.items → AreRead p S K vs ws → IsRowWitness s.domain s.range K ws G.top part m G
+    row_witness S K vs ws e ek ev read = record {
+      domain_cells = domain_is;
+      all = range_is;
+      relative = ek;
+      images = subst (λ (u : List (List Factor)). AreRead p u K m.images.items ws) (e ∙ sym range_is) (subst (λ (v : List (List (ℕ × ℕ))). AreRead p S K v ws) ev read);
+      image_count = mt.images ∙ ap length (sym domain_is);
+      greatest = refl;
+      cycles = subst (λ (u : List (List Factor)). AreNamed (length u) (map (λ z. z.1) part.cycles.items)) (sym domain_is) (cycles_named G W domain_side part t.first (in_domain W) refl t.order t.fits.domain);
+      cocycles = subst (λ (u : List (List Factor)). AreNamed (length u) m.range.cocycles.items) (sym range_is) (cocycles_named G W range_side m.range t.first (in_range W M refl) refl t.range_order mt.range);
+      sizes = t.range_order.cocycles;
+      matrices = mt.matrices;
+    }

@@ -5,12 +5,12 @@ use Rattle.witness_types.specs.Rows.{rows_of}
 
 -- each matrix has at most 4096 rows, and where it has any, as many columns as are told for it, at
 -- most 4096
-pub record AreSmall (tables : List Table) (columns : List ℕ) : Type 0 where
-  pub count : length tables ≡ length columns
+pub record AreSmall (tables : List Table) (widths : List ℕ) : Type 0 where
+  pub count : length tables ≡ length widths
   pub rows : (k : ℕ) (t : Table) → k < length tables → (slice_index_or tables k t).rows ≤ 4096
-  pub few : (k : ℕ) → k < length columns → slice_index columns k ≤ 4096
+  pub few : (k : ℕ) → k < length widths → slice_index widths k ≤ 4096
   pub columns : (k : ℕ) (t : Table) → k < length tables → 0 < (slice_index_or tables k t).rows
-      → (slice_index_or tables k t).columns ≡ slice_index columns k
+      → (slice_index_or tables k t).columns ≡ slice_index widths k
 
 -- the matrix has as many rows as the table, so many columns, and its entries
 pub record IsMadeOf (t : Table) (columns : ℕ) (m : Table) : Type 0 where

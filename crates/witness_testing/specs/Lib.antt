@@ -2,3 +2,4 @@ pub mod Given
 pub mod Testing
 pub mod Sides
 pub mod Claims
+pub mod Mapped

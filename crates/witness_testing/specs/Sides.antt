@@ -1,8 +1,6 @@
 -- What is told of the lines of a pair, and of those of matrices, whatever witness has them.
 use Rattle.std.specs.Prelude.{◌≡◌, ℕ, List, [], ◌∷◌, length, map, if◌then◌else◌, ◌==◌, slice_index_or}
 use Rattle.elem_cubes.specs.Cells.{Factor}
-use Rattle.cell_complex.specs.Sorted.{IsSortedCells}
-use Rattle.cell_complex.specs.Numbering.{IsComplexOf}
 use Rattle.homology_basis.specs.Bases.{in_degree}
 use Rattle.witness_laws.specs.declared.law.WitnessFault.{WitnessFault}
 use Rattle.witness_laws.specs.Lines.{Side, Line, row, each}
@@ -15,7 +13,6 @@ use Rattle.witness_types.specs.declared.part.PairPart.{PairPart}
 use Rattle.witness_sections.specs.Outcomes.{ArePassed, IsFaultAmong}
 use Rattle.witness_sections.specs.Readings.{AreRead, AreNamed}
 use Rattle.witness_rows.specs.Rows.{target_cells}
-use Rattle.witness_values.specs.declared.cells.MapSides.{MapSides}
 use Rattle.read_parts.specs.declared.parts.ReadMap.{ReadMap}
 use Rattle.read_parts.specs.Values.{read_tables}
 use Rattle.witness_testing.specs.Given.{map_value}
@@ -38,16 +35,6 @@ abbrev pub IsSideFault : ℕ → List (List Factor) → List (List Factor) → P
 IsSideFault p x a S from fault =
     (G : Given) (W : Tables) (side : Side) → IsSideWith x a S G W side
     → IsFaultAmong (holds p G W) (pair_lines side (pair_of W side)) from fault
-
--- the cells of domain and range with their complexes, and the images over these cells
-pub record AreSides {p : ℕ} (domain range : List (List Factor)) (images : List (List (ℕ × ℕ)))
-    (s : MapSides p) : Type 0 where
-  pub domain_cells : s.domain ≡ domain
-  pub all : s.range ≡ range
-  pub sorted : IsSortedCells range
-  pub domain_complex : IsComplexOf p domain s.domain_complex
-  pub range_complex : IsComplexOf p range s.range_complex
-  pub images : AreRead p range range images s.images.items
 
 -- the lines of the matrix of degree k: none where it has no columns
 abbrev pub rows_at : PairTables → MapTables → ℕ → List Line

@@ -1,9 +1,9 @@
 //! What a witness claims that meets its laws.
-ghost use Rattle.std.specs.Prelude.{◌≡◌, ◌<◌, ◌≤◌, ◌^◌, length, map, IfOk};
+ghost use Rattle.std.specs.Prelude.{◌≡◌, ◌<◌, ◌≤◌, ◌^◌, [], length, map, IfOk};
 ghost use Rattle.witness_types.specs.Answers.{IsClaimWith};
 ghost use Rattle.witness_types.specs.Parts.{beside, degrees_of, pair_tables};
 ghost use Rattle.witness_types.specs.Rows.{rows_of};
-ghost use Rattle.witness_testing.specs.Claims.{AreSmall, IsMadeOf, AreMadeOf};
+ghost use Rattle.witness_testing.specs.Claims.{AreSmall, AreHigh, IsMadeOf, AreMadeOf};
 
 use chains::Chain;
 use leray_conley::Matrix;
@@ -48,7 +48,7 @@ fn matrix_of<const P: u16>(alloc: Global, table: MatrixRows<P>, columns: u32) ->
     requires rows { table.rows ≤ 4096 }
     requires few { columns ≤ 4096 }
     requires columns { 0 < table.rows → table.columns ≡ columns }
-    ensures { IsMadeOf table columns result }
+    ensures { IsMadeOf table.entry columns result }
 {
     if table.rows() == 0 {
         return Matrix::new(0, columns, Vec::new(alloc));
@@ -62,8 +62,9 @@ fn matrices_of<const P: u16>(
     tables: Vec<MatrixRows<P>>,
     columns: &[u32],
 ) -> Result<Vec<Matrix<P>>, AllocError>
-    requires { AreSmall tables.items columns.now }
-    ensures { IfOk result (λ ms. AreMadeOf tables.items columns.now (length columns.now) ms.items) }
+    requires small { AreSmall tables.items columns.now }
+    ensures { IfOk result (λ ms. AreMadeOf tables.entry.items columns.now
+        (length columns.now) ms.items) }
 {
     let mut left = tables;
     let mut matrices = Vec::new(alloc);
@@ -98,26 +99,22 @@ pub(crate) fn pair_claim<const P: u16>(
 pub(crate) fn map_claim<const P: u16>(
     alloc: Global,
     part: &PairPart<P>,
-    map: ReadMap<P>,
+    others: ReadMap<P>,
     top: u8,
 ) -> Result<Claim<P>, AllocError>
     requires domain { length part.now.cycles.items < 2 ^ 32 }
-    requires range { length map.range.cycles.items < 2 ^ 32 }
-    requires matrices { AreSmall map.rows.items (map length (pair_tables top part.now).cycles) }
-    requires heights { AreHigh map.rows.items (map length (pair_tables top map.range).cycles) }
-    ensures { IfOk result (λ claim. IsClaimWith claim (map length (pair_tables top part.now).cycles)
-        (map length (pair_tables top map.range).cycles) (map rows_of map.rows.items)) }
+    requires range { length others.range.cycles.items < 2 ^ 32 }
+    requires matrices { AreSmall others.rows.items (map length (pair_tables top part.now).cycles) }
+    requires heights { AreHigh others.rows.items
+        (map length (pair_tables top others.range).cycles) }
+    ensures { IfOk result (λ claim. IsClaimWith claim
+        (map length (pair_tables top part.now).cycles)
+        (map length (pair_tables top others.entry.range).cycles)
+        (map rows_of others.entry.rows.items)) }
 {
     let domain = dimensions(alloc, part, top)?;
-    let range = dimensions(alloc, &map.range, top)?;
-    let ReadMap {
-        range: _,
-        vertices: _,
-        contractions: _,
-        images: _,
-        rows,
-    } = map;
-    let matrices = matrices_of(alloc, rows, &domain)?;
+    let range = dimensions(alloc, &others.range, top)?;
+    let matrices = matrices_of(alloc, others.rows, &domain)?;
     Ok(Claim {
         domain,
         range,

@@ -2,6 +2,7 @@
 //! witness that meets them.
 #![tactic(auto)]
 
+mod beside;
 mod cells;
 mod claims;
 mod matrices;

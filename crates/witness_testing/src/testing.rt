@@ -8,8 +8,8 @@ ghost use Rattle.witness_laws.specs.Tables.{tables_format};
 ghost use Rattle.witness_types.specs.Inputs.{given_of, IsWitnessInput, IsWithinTables};
 ghost use Rattle.witness_sections.specs.Readings.{AreNamed};
 ghost use Rattle.read_parts.specs.Values.{parts_value, AreTestable};
-ghost use Rattle.witness_testing.specs.Given.{pair_given, map_given, pair_parts, map_parts, map_value};
-ghost use Rattle.witness_testing.specs.Sides.{AreSides};
+ghost use Rattle.witness_testing.specs.Given.{pair_given, map_given, pair_parts, map_parts};
+ghost use Rattle.witness_testing.specs.Mapped.{AreSides};
 ghost use Rattle.witness_testing.specs.Testing.{IsTested, IsTestFault, MeetsAll};
 
 use crate::cells::{kept, map_dimension, pair_dimension};
@@ -51,7 +51,7 @@ fn test_pair<const P: u16>(
     let set = both(alloc, x, a)?;
     let cells = faces(alloc, &set)?;
     let relative = kept(alloc, x, a)?;
-    let _next = test_side(alloc, field, x, a, &cells, &relative, part, top, FIRST)?;
+    test_side(alloc, field, x, a, &cells, &relative, part, top, FIRST)?;
     let claim = pair_claim(alloc, part, top)?;
     Ok(claim)
 }
@@ -67,7 +67,7 @@ fn sides_of<const P: u16>(
     requires domain { IsOfPair domain }
     requires range { IsOfPair range }
     requires images { AreNamed (length range) images.now }
-    ensures { IfOk result (AreSides domain range images.now) }
+    ensures { IfOk result (AreSides domain.entry range.entry images.now) }
 {
     // Its clauses say that the cells stand in order.
     let _count = range.len();
@@ -106,12 +106,14 @@ fn test_lines<const P: u16>(
     requires parts { AreTestable (map_given map.now x.now a.now y.now b.now)
         (map_parts domain.now part.now) }
     ensures ok { OnOk result (MeetsAll P (map_given map.now x.now a.now y.now b.now)
-        (map_value top domain.now part.now)) }
+        (parts_value (map_given map.now x.now a.now y.now b.now)
+        (map_parts domain.now part.now))) }
     ensures domain_few { OnOk result (length domain.now.cycles.items < 2 ^ 32) }
     ensures range_few { OnOk result (length part.now.range.cycles.items < 2 ^ 32) }
     ensures err { IfErr result (IsTestFault
         (tables_format P (map_given map.now x.now a.now y.now b.now))
-        (map_value top domain.now part.now)) }
+        (parts_value (map_given map.now x.now a.now y.now b.now)
+        (map_parts domain.now part.now))) }
 {
     let domain_set = both(alloc, x, a)?;
     let range_set = both(alloc, y, b)?;
@@ -124,7 +126,7 @@ fn test_lines<const P: u16>(
     let images = read_chains(alloc, field, &others, &target, &part.images)?;
     let sides = sides_of(alloc, field, cells, others, &part.images)?;
     let fourth = test_cells(alloc, field, map, &domain_set, &sides, part, third + 1)?;
-    let _behind = test_matrices(
+    test_matrices(
         alloc,
         field,
         &sides.domain,
@@ -160,10 +162,10 @@ fn test_map<const P: u16>(
     requires parts { AreTestable (map_given map.now x.now a.now y.now b.now)
         (map_parts domain.now part) }
     ensures ok { IfOk result (IsTested (map_given map.now x.now a.now y.now b.now)
-        (parts_value (map_given map.now x.now a.now y.now b.now) (map_parts domain.now part))) }
+        (parts_value (map_given map.now x.now a.now y.now b.now) (map_parts domain.now part.entry))) }
     ensures err { IfErr result (IsTestFault
         (tables_format P (map_given map.now x.now a.now y.now b.now))
-        (parts_value (map_given map.now x.now a.now y.now b.now) (map_parts domain.now part))) }
+        (parts_value (map_given map.now x.now a.now y.now b.now) (map_parts domain.now part.entry))) }
 {
     let top = map_dimension(map, x, a, y, b);
     test_lines(alloc, field, map, x, a, y, b, top, domain, &part)?;
@@ -183,9 +185,9 @@ pub fn test_laws<const P: u16>(
     requires limits { IsWithinTables (given_of input.now) }
     requires parts { AreTestable (given_of input.now) parts }
     ensures ok { IfOk result
-        (IsTested (given_of input.now) (parts_value (given_of input.now) parts)) }
+        (IsTested (given_of input.now) (parts_value (given_of input.now) parts.entry)) }
     ensures err { IfErr result (IsTestFault (tables_format P (given_of input.now))
-        (parts_value (given_of input.now) parts)) }
+        (parts_value (given_of input.now) parts.entry)) }
 {
     let Parts { domain, map } = parts;
     match input {

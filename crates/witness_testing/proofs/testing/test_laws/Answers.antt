@@ -1,0 +1,40 @@
+use Rattle.std.proofs.Common.{◌≡◌, ◌∙◌, ap, sym, subst}
+use Rattle.std.proofs.lemmas.Result.{IfOk-weaker, IfErr-weaker}
+use Rattle.witness_laws.specs.Tables.{tables_format}
+use Rattle.witness_types.specs.Inputs.{given_of, IsWitnessInput, IsWithinTables}
+use Rattle.read_parts.specs.Values.{parts_value}
+use Rattle.witness_testing.specs.Given.{pair_given, map_given, pair_parts, map_parts}
+use Rattle.witness_testing.specs.Testing.{IsTested, IsTestFault}
+use Rattle.witness_testing.proofs.Cases.{pair_alone, pair_testable, pair_tested_back, pair_fault_back, map_there, map_testable, map_tested_back, map_fault_back}
+use Rattle.witness_testing.proofs.testing.test_laws.Goals as goal
+
+pub test_pair-requires-clause-agree : goal.test_pair-requires-clause-agree
+test_pair-requires-clause-agree g c = subst IsWitnessInput c.in-Pair.is c.requires.input
+
+pub test_pair-requires-clause-few : goal.test_pair-requires-clause-few
+test_pair-requires-clause-few g c = (subst (λ z. IsWithinTables (given_of z)) c.in-Pair.is c.requires.limits).domain
+
+pub test_pair-requires-clause-part : goal.test_pair-requires-clause-part
+test_pair-requires-clause-part g c =
+    let G = given_of c.args.input.now in
+    let e = ap given_of c.in-Pair.is in
+    pair_testable G c.args.parts c.in-Pair.x.now c.in-Pair.a.now e (pair_alone G c.args.parts c.in-Pair.x.now c.in-Pair.a.now e c.requires.parts) c.requires.parts
+
+pub returns-in-Pair-clause-ok : goal.returns-in-Pair-clause-ok
+returns-in-Pair-clause-ok g c =
+    let G = given_of c.args.input.now in
+    let x = c.in-Pair.x.now in
+    let a = c.in-Pair.a.now in
+    let e = ap given_of c.in-Pair.is in
+    let f = pair_alone G c.args.parts x a e c.requires.parts in
+    IfOk-weaker c.test_pair.result (IsTested (pair_given x a) (parts_value (pair_given x a) (pair_parts c.args.parts.domain))) (IsTested G (parts_value G c.args.parts)) (λ claim h. pair_tested_back G c.args.parts x a e f claim h) c.test_pair.ensures.ok
+
+pub returns-in-Pair-clause-err : goal.returns-in-Pair-clause-err
+returns-in-Pair-clause-err g c =
+    let P = g.row.P in
+    let G = given_of c.args.input.now in
+    let x = c.in-Pair.x.now in
+    let a = c.in-Pair.a.now in
+    let e = ap given_of c.in-Pair.is in
+    let f = pair_alone G c.args.parts x a e c.requires.parts in
+    IfErr-weaker c.test_pair.result (IsTestFault (tables_format P (pair_given x a)) (parts_value (pair_given x a) (pair_parts c.args.parts.domain))) (IsTestFault (tables_format P G) (parts_value G c.args.parts)) (λ fault h. pair_fault_back G c.args.parts x a e f fault h) c.test_pair.ensures.err
