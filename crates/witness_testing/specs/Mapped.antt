@@ -7,11 +7,11 @@ use Rattle.witness_sections.specs.Readings.{AreRead}
 use Rattle.witness_values.specs.declared.cells.MapSides.{MapSides}
 
 -- the cells of domain and range with their complexes, and the images over these cells
-pub record AreSides {p : ℕ} (domain range : List (List Factor)) (images : List (List (ℕ × ℕ)))
+pub record AreSides {p : ℕ} (domain range : List (List Factor)) (chains : List (List (ℕ × ℕ)))
     (s : MapSides p) : Type 0 where
   pub domain_cells : s.domain ≡ domain
   pub all : s.range ≡ range
   pub sorted : IsSortedCells range
   pub domain_complex : IsComplexOf p domain s.domain_complex
   pub range_complex : IsComplexOf p range s.range_complex
-  pub images : AreRead p range range images s.images.items
+  pub images : AreRead p range range chains s.images.items

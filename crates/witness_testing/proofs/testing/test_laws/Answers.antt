@@ -8,17 +8,8 @@ use Rattle.witness_testing.specs.Testing.{IsTested, IsTestFault}
 use Rattle.witness_testing.proofs.Cases.{pair_alone, pair_testable, pair_tested_back, pair_fault_back, map_there, map_testable, map_tested_back, map_fault_back}
 use Rattle.witness_testing.proofs.testing.test_laws.Goals as goal
 
-pub test_pair-requires-clause-agree : goal.test_pair-requires-clause-agree
-test_pair-requires-clause-agree g c = subst IsWitnessInput c.in-Pair.is c.requires.input
 
-pub test_pair-requires-clause-few : goal.test_pair-requires-clause-few
-test_pair-requires-clause-few g c = (subst (λ z. IsWithinTables (given_of z)) c.in-Pair.is c.requires.limits).domain
 
-pub test_pair-requires-clause-part : goal.test_pair-requires-clause-part
-test_pair-requires-clause-part g c =
-    let G = given_of c.args.input.now in
-    let e = ap given_of c.in-Pair.is in
-    pair_testable G c.args.parts c.in-Pair.x.now c.in-Pair.a.now e (pair_alone G c.args.parts c.in-Pair.x.now c.in-Pair.a.now e c.requires.parts) c.requires.parts
 
 pub returns-in-Pair-clause-ok : goal.returns-in-Pair-clause-ok
 returns-in-Pair-clause-ok g c =
@@ -39,38 +30,16 @@ returns-in-Pair-clause-err g c =
     let f = pair_alone G c.args.parts x a e c.requires.parts in
     IfErr-weaker c.test_pair.result (IsTestFault (tables_format P (pair_given x a)) (parts_value (pair_given x a) (pair_parts c.args.parts.domain))) (IsTestFault (tables_format P G) (parts_value G c.args.parts)) (λ fault h. pair_fault_back G c.args.parts x a e f fault h) c.test_pair.ensures.err
 
-pub test_map-requires-clause-agree : goal.test_map-requires-clause-agree
-test_map-requires-clause-agree g c = (subst IsWitnessInput c.in-Map.is c.requires.input).0.x_a
 
-pub test_map-requires-clause-range_agree : goal.test_map-requires-clause-range_agree
-test_map-requires-clause-range_agree g c = (subst IsWitnessInput c.in-Map.is c.requires.input).0.y_b
 
-pub test_map-requires-clause-faultless : goal.test_map-requires-clause-faultless
-test_map-requires-clause-faultless g c = (subst IsWitnessInput c.in-Map.is c.requires.input).1
 
-pub test_map-requires-clause-few : goal.test_map-requires-clause-few
-test_map-requires-clause-few g c = (subst (λ z. IsWithinTables (given_of z)) c.in-Map.is c.requires.limits).domain
 
-pub test_map-requires-clause-range_few : goal.test_map-requires-clause-range_few
-test_map-requires-clause-range_few g c = (subst (λ z. IsWithinTables (given_of z)) c.in-Map.is c.requires.limits).range
 
-pub test_map-requires-clause-parts : goal.test_map-requires-clause-parts
-test_map-requires-clause-parts g c =
-    map_testable (given_of c.args.input.now) c.args.parts c.in-Map.cubes.now c.in-Map.x.now c.in-Map.a.now c.in-Map.y.now c.in-Map.b.now (ap given_of c.in-Map.is) c.in-Some.part c.in-Some.is c.requires.parts
 
-pub returns-in-Some-clause-ok : goal.returns-in-Some-clause-ok
-returns-in-Some-clause-ok g c =
-    let G = given_of c.args.input.now in
-    let H = map_given c.in-Map.cubes.now c.in-Map.x.now c.in-Map.a.now c.in-Map.y.now c.in-Map.b.now in
-    let e = ap given_of c.in-Map.is in
-    IfOk-weaker c.test_map.result (IsTested H (parts_value H (map_parts c.args.parts.domain c.in-Some.part))) (IsTested G (parts_value G c.args.parts))
-    (λ claim h. map_tested_back G c.args.parts c.in-Map.cubes.now c.in-Map.x.now c.in-Map.a.now c.in-Map.y.now c.in-Map.b.now e c.in-Some.part c.in-Some.is claim h) c.test_map.ensures.ok
+pub test_pair-requires : goal.test_pair-requires
+test_pair-requires g c =
+    ((omega arith), ((omega arith), ((subst IsWitnessInput c.in-Pair.is c.requires.input), (((subst (λ z. IsWithinTables (given_of z)) c.in-Pair.is c.requires.limits).domain), (let G = given_of c.args.input.now in let e = ap given_of c.in-Pair.is in pair_testable G c.args.parts c.in-Pair.x.now c.in-Pair.a.now e (pair_alone G c.args.parts c.in-Pair.x.now c.in-Pair.a.now e c.requires.parts) c.requires.parts)))))
 
-pub returns-in-Some-clause-err : goal.returns-in-Some-clause-err
-returns-in-Some-clause-err g c =
-    let P = g.row.P in
-    let G = given_of c.args.input.now in
-    let H = map_given c.in-Map.cubes.now c.in-Map.x.now c.in-Map.a.now c.in-Map.y.now c.in-Map.b.now in
-    let e = ap given_of c.in-Map.is in
-    IfErr-weaker c.test_map.result (IsTestFault (tables_format P H) (parts_value H (map_parts c.args.parts.domain c.in-Some.part))) (IsTestFault (tables_format P G) (parts_value G c.args.parts))
-    (λ fault h. map_fault_back G c.args.parts c.in-Map.cubes.now c.in-Map.x.now c.in-Map.a.now c.in-Map.y.now c.in-Map.b.now e c.in-Some.part c.in-Some.is fault h) c.test_map.ensures.err
+pub test_map-requires : goal.test_map-requires
+test_map-requires g c =
+    ((omega arith), ((omega arith), ((omega arith), (((subst IsWitnessInput c.in-Map.is c.requires.input).0.x_a), (((subst IsWitnessInput c.in-Map.is c.requires.input).0.y_b), (((subst IsWitnessInput c.in-Map.is c.requires.input).1), (((subst (λ z. IsWithinTables (given_of z)) c.in-Map.is c.requires.limits).domain), (((subst (λ z. IsWithinTables (given_of z)) c.in-Map.is c.requires.limits).range), (map_testable (given_of c.args.input.now) c.args.parts c.in-Map.cubes.now c.in-Map.x.now c.in-Map.a.now c.in-Map.y.now c.in-Map.b.now (ap given_of c.in-Map.is) c.in-Some.part c.in-Some.is c.requires.parts)))))))))
