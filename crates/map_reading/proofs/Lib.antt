@@ -5,3 +5,7 @@ pub mod MatrixValues
 pub mod Sizes
 pub mod MapForm
 pub mod MapBack
+pub mod MapStops
+pub mod KindTables
+pub mod Growing
+pub mod MapRead

@@ -1,5 +1,5 @@
 -- The lines of the values and images of a map, cell by cell of the domain.
-use Rattle.std.specs.Prelude.{◌≡◌, ℕ, suc, ◌+◌, ◌<◌, ◌≤◌, ◌⊎◌, true, List, [], ◌∷◌, length, filter}
+use Rattle.std.specs.Prelude.{◌≡◌, ℕ, suc, ◌+◌, ◌<◌, ◌≤◌, true, List, [], ◌∷◌, length, filter}
 use Rattle.elem_cubes.specs.Cells.{Factor, dimension_of}
 use Rattle.elem_cubes.specs.Laws.{cell_at}
 use Rattle.cube_sets.specs.Closures.{cells_of}
@@ -10,7 +10,6 @@ use Rattle.acyclic_values.specs.CarriedMaps.{GoesInto}
 use Rattle.map_checks.specs.Faults.{AreNamed}
 use Rattle.witness_laws.specs.Lines.{each}
 use Rattle.witness_runs.specs.declared.miss.Stop.{Stop}
-use Rattle.witness_runs.specs.declared.miss.Stop.TheVariants as stops
 use Rattle.section_reading.specs.Cell.{HasCell, StopsCell}
 use Rattle.witness_reading.specs.Kinds.{kinds_where}
 
@@ -77,7 +76,7 @@ pub record HasAllCells (p : ℕ) (f : List Naming) (domain range : List (List Fa
   pub many : length vertices ≡ length (cells_of domain)
   pub cells : HasCells p f domain range 0 bytes vertices fillings images rest
 
--- behind those of some cells the next ones stop
+-- behind those of some cells the next one stops
 pub record StopsInCells (p : ℕ) (f : List Naming) (domain range : List (List Factor))
     (bytes : List ℕ) (stop : Stop) : Type 0 where
   pub vertices : List ℕ
@@ -87,8 +86,3 @@ pub record StopsInCells (p : ℕ) (f : List Naming) (domain range : List (List F
   pub within : length vertices < length (cells_of domain)
   pub before : HasCells p f domain range 0 bytes vertices fillings images behind
   pub here : StopsAtCell p f domain range (length vertices) behind stop
-
-abbrev pub StopsCells : ℕ → List Naming → List (List Factor) → List (List Factor) → List ℕ → Stop
-    → Type 0
-StopsCells p f domain range bytes stop =
-    StopsInCells p f domain range bytes stop ⊎ (stop ≡ stops.NoMemory)

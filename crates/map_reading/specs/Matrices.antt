@@ -1,9 +1,8 @@
 -- The lines of the matrices: the rows of each degree that has columns.
-use Rattle.std.specs.Prelude.{◌≡◌, ℕ, suc, ◌<◌, ◌⊎◌, List, [], ◌∷◌, length, map, if◌then◌else◌, ◌==◌}
+use Rattle.std.specs.Prelude.{◌≡◌, ℕ, suc, ◌<◌, List, [], ◌∷◌, length, map, if◌then◌else◌, ◌==◌}
 use Rattle.leray_conley.specs.Tables.{Table}
 use Rattle.witness_types.specs.Parts.{beside, degrees_of}
 use Rattle.witness_runs.specs.declared.miss.Stop.{Stop}
-use Rattle.witness_runs.specs.declared.miss.Stop.TheVariants as stops
 use Rattle.witness_runs.specs.Rows.{HasRows, StopsRows}
 
 -- how many cycles have this degree
@@ -43,7 +42,3 @@ pub record StopsInMatrices (p top : ℕ) (height width : ℕ → ℕ) (bytes : L
   pub matrices : HasMatrices p height width 0 bytes before behind
   pub here : StopsRows p (length before) (width (length before))
       (row_lines (height (length before)) (width (length before))) behind stop
-
-abbrev pub StopsMatrices : ℕ → ℕ → (ℕ → ℕ) → (ℕ → ℕ) → List ℕ → Stop → Type 0
-StopsMatrices p top height width bytes stop =
-    StopsInMatrices p top height width bytes stop ⊎ (stop ≡ stops.NoMemory)

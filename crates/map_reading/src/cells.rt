@@ -1,7 +1,8 @@
 //! The lines of the values and images of all cells of the domain.
 ghost use Rattle.std.specs.Prelude.{◌≡◌, ◌++◌, ◌∷◌, [], ◌<◌, ◌≤◌, map, length, OnOk, IfOk, IfErr};
 ghost use Rattle.cube_sets.specs.Closures.{cells_of};
-ghost use Rattle.map_reading.specs.Cells.{AreSides, HasCellAt, StopsAtCell, HasAllCells, StopsCells, all_kinds};
+ghost use Rattle.witness_reading.specs.Ends.{IfTold};
+ghost use Rattle.map_reading.specs.Cells.{AreSides, HasCellAt, StopsAtCell, HasAllCells, StopsInCells, all_kinds};
 
 use crate::tables::{kind_of, kinds_in, kinds_of_all, kinds_over, numbers_of, value_of};
 use cell_complex::Numbered;
@@ -40,8 +41,8 @@ fn read_cell<'a, const P: u16>(
     requires inside { place < length cells.now }
     ensures ok { IfOk result (λ r. HasCellAt P map.now.named domain.now.cells range.now.cells place
         bytes.now r.0.vertex r.0.contraction.items r.0.image r.1.now) }
-    ensures err { IfErr result (StopsAtCell P map.now.named domain.now.cells range.now.cells place
-        bytes.now) }
+    ensures err { IfErr result (IfTold (StopsAtCell P map.now.named domain.now.cells
+        range.now.cells place bytes.now)) }
 {
     let value = value_of(alloc, map, domain, range, cells, place)?;
     let numbers = numbers_of(alloc, all, &value)?;
@@ -94,8 +95,8 @@ pub(crate) fn read_cells<'a, const P: u16>(
     ensures ok { IfOk result (λ r. HasAllCells P map.now.named domain.now.cells range.now.cells
         bytes.now r.0.vertices.items (map (λ v. v.items) r.0.contractions.items) r.0.images.items
         r.1.now) }
-    ensures err { IfErr result (StopsCells P map.now.named domain.now.cells range.now.cells
-        bytes.now) }
+    ensures err { IfErr result (IfTold (StopsInCells P map.now.named domain.now.cells
+        range.now.cells bytes.now)) }
 {
     let kinds = kinds_of_all(alloc, all)?;
     let mut parts = CellParts {
@@ -105,11 +106,15 @@ pub(crate) fn read_cells<'a, const P: u16>(
     };
     let mut rest = bytes;
     for place in 0..cells.len() {
-        let (part, behind) = read_cell(
+        match read_cell(
             alloc, field, rest, map, domain, range, cells, all, &kinds, place,
-        )?;
-        keep_cell(&mut parts, part)?;
-        rest = behind;
+        ) {
+            Ok((part, behind)) => {
+                keep_cell(&mut parts, part)?;
+                rest = behind;
+            }
+            Err(stop) => return Err(stop),
+        }
     }
     Ok((parts, rest))
 }

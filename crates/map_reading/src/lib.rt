@@ -3,4 +3,8 @@
 
 mod cells;
 mod matrices;
+mod reading;
 mod tables;
+mod whole;
+
+pub use reading::read_witness;

@@ -1,7 +1,8 @@
 //! The matrices of all degrees.
 ghost use Rattle.std.specs.Prelude.{◌≡◌, ◌++◌, ◌∷◌, [], ◌<◌, ◌≤◌, length, OnOk, IfOk, IfErr, IfSome};
 ghost use Rattle.witness_runs.specs.Rows.{HasRows, StopsRows};
-ghost use Rattle.map_reading.specs.Matrices.{size_in, row_lines, HasMatrix, HasAllMatrices, StopsMatrices};
+ghost use Rattle.witness_reading.specs.Ends.{IfTold};
+ghost use Rattle.map_reading.specs.Matrices.{size_in, row_lines, HasMatrix, HasAllMatrices, StopsInMatrices};
 
 use chains::Chain;
 use matrix_rows::MatrixRows;
@@ -34,8 +35,10 @@ fn read_matrix<const P: u16>(
         (StopsRows P degree width (row_lines height width) bytes.now) }
 {
     let lines = if width == 0 { 0 } else { height };
-    let (entries, rest) = rows_due(alloc, bytes, u32::from(degree), lines, width, P)?;
-    Ok((MatrixRows::new(height, width, entries), rest))
+    match rows_due(alloc, bytes, u32::from(degree), lines, width, P) {
+        Ok((entries, rest)) => Ok((MatrixRows::new(height, width, entries), rest)),
+        Err(stop) => Err(stop),
+    }
 }
 
 // One more matrix.
@@ -62,7 +65,7 @@ pub(crate) fn read_matrices<'a, const P: u16>(
     ensures ok { IfOk result (λ r. HasAllMatrices P top (size_in range.now) (size_in domain.now)
         bytes.now r.0.items r.1.now) }
     ensures err { IfErr result
-        (StopsMatrices P top (size_in range.now) (size_in domain.now) bytes.now) }
+        (IfTold (StopsInMatrices P top (size_in range.now) (size_in domain.now) bytes.now)) }
 {
     let mut matrices = Vec::new(alloc);
     let mut rest = bytes;
@@ -71,9 +74,13 @@ pub(crate) fn read_matrices<'a, const P: u16>(
         else {
             return Err(Stop::NoMemory);
         };
-        let (matrix, behind) = read_matrix(alloc, rest, degree, height, width)?;
-        keep_matrix(&mut matrices, matrix)?;
-        rest = behind;
+        match read_matrix(alloc, rest, degree, height, width) {
+            Ok((matrix, behind)) => {
+                keep_matrix(&mut matrices, matrix)?;
+                rest = behind;
+            }
+            Err(stop) => return Err(stop),
+        }
     }
     Ok((matrices, rest))
 }

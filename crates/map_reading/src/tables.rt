@@ -1,5 +1,5 @@
 //! What the lines of a cell of the domain may name: tables of kinds and numbers of cells.
-ghost use Rattle.std.specs.Prelude.{◌≡◌, ◌<◌, ◌≤◌, ◌↔◌, List, suc, filter, length, slice_index, IfOk, IsTrue, Bool};
+ghost use Rattle.std.specs.Prelude.{◌≡◌, ◌<◌, ◌≤◌, ◌↔◌, ◌+◌, List, suc, map, filter, length, slice_index, IfOk, IsTrue, Bool};
 ghost use Rattle.std.specs.List.{Contains};
 ghost use Rattle.elem_cubes.specs.Cells.{Factor, dimension_of};
 ghost use Rattle.cube_sets.specs.Closures.{cells_of};
@@ -8,7 +8,7 @@ ghost use Rattle.acyclic_values.specs.CarriedMaps.{GoesInto};
 ghost use Rattle.map_checks.specs.Faults.{AreNamed};
 
 ghost use Rattle.witness_reading.specs.Kinds.{kinds_where};
-ghost use Rattle.map_reading.specs.Cells.{value_in, numbers_in, kinds_above, all_kinds};
+ghost use Rattle.map_reading.specs.Cells.{value_in, all_kinds};
 
 use cell_complex::Numbered;
 use cube_maps::CubeMap;
@@ -66,7 +66,8 @@ pub(crate) fn numbers_of(
 ) -> Result<Vec<u32>, NoMemory>
     requires inside { (q : List Factor) → Contains value.now q → Contains all.now q }
     requires few { length all.now ≤ 4096 }
-    ensures { IfOk result (λ numbers. numbers.items ≡ numbers_in all.now value.now) }
+    ensures { IfOk result (λ numbers. numbers.items
+        ≡ map (λ q. suc (number_of all.now q)) value.now) }
 {
     let mut numbers = Vec::with_capacity(alloc, value.len())?;
     for place in 0..value.len() {
@@ -77,11 +78,11 @@ pub(crate) fn numbers_of(
 
 /// The kinds of the cells of one dimension more than each of these.
 pub(crate) fn kinds_over(alloc: Global, value: &[Cell]) -> Result<Vec<u8>, NoMemory>
-    ensures { IfOk result (λ kinds. kinds.items ≡ kinds_above value.now) }
+    ensures { IfOk result (λ kinds. kinds.items ≡ map (λ q. suc (dimension_of q + 1)) value.now) }
 {
     let mut kinds = Vec::with_capacity(alloc, value.len())?;
     for place in 0..value.len() {
-        kinds.push(kind_of(&value[place]) + 1)?;
+        kinds.push(value[place].dim() as u8 + 2)?;
     }
     Ok(kinds)
 }
@@ -112,8 +113,9 @@ pub(crate) fn kinds_in(
     value: &[Cell],
     numbers: &[u32],
 ) -> Result<Vec<u8>, NoMemory>
-    requires { numbers.now ≡ numbers_in all.now value.now }
-    ensures { IfOk result (λ kinds. (on : List Factor → Bool) → value.now ≡ filter on all.now
+    requires { numbers.now ≡ map (λ q. suc (number_of all.now q)) value.now }
+    ensures { IfOk result (λ kinds. (on : List Factor → Bool) (range : List (List Factor))
+        → all.now ≡ cells_of range → value.now ≡ filter on all.now
         → kinds.items ≡ kinds_where on all.now) }
 {
     let mut kinds = Vec::new(alloc);
