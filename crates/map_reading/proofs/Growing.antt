@@ -107,10 +107,10 @@ count_push k (y ∷ zs) z = by (y.0 == k) (count_push k zs z)
     by false r = r
 
 pub counts_one : (k : ℕ) (zs : List (ℕ × List (ℕ × ℕ))) (z : ℕ × List (ℕ × ℕ)) (n : ℕ) → (z.0 == k) ≡ true → n ≡ size_in zs k → n + 1 ≡ size_in (zs ++ z ∷ []) k
-counts_one k zs z n t e = let r = count_push k zs z in let c : cond (z.0 == k) 1 0 ≡ 1 = ap (λ b. cond b 1 0) t in omega (arith, r, c)
+counts_one k zs z n t e = let r = count_push k zs z in let c : ◌≡◌ {A = ℕ} (cond (z.0 == k) 1 0) 1 = ap (λ b. cond b 1 0) t in omega (arith, r, c)
 
 pub counts_none : (k : ℕ) (zs : List (ℕ × List (ℕ × ℕ))) (z : ℕ × List (ℕ × ℕ)) (n : ℕ) → (z.0 == k) ≡ false → n ≡ size_in zs k → n ≡ size_in (zs ++ z ∷ []) k
-counts_none k zs z n t e = let r = count_push k zs z in let c : cond (z.0 == k) 1 0 ≡ 0 = ap (λ b. cond b 1 0) t in omega (arith, r, c)
+counts_none k zs z n t e = let r = count_push k zs z in let c : ◌≡◌ {A = ℕ} (cond (z.0 == k) 1 0) 0 = ap (λ b. cond b 1 0) t in omega (arith, r, c)
 
 joined_many : (p w : ℕ) (rs : List (List ℕ)) → AreRows p w rs → length (joined rs) ≡ length rs * w
 joined_many p w [] a = let z : 0 * w ≡ 0 = zero-mul w in omega arith

@@ -107,7 +107,7 @@ module _ (p : ℕ) (G : Given) (side : Side) (bytes : List ℕ) (part : PairPart
   abbrev cs : List (ℕ × List (ℕ × ℕ))
   cs = part.cycles.items
 
-  read_content : PairContent p G.top (x_of G side) (a_of G side)
+  abbrev read_content : PairContent p G.top (x_of G side) (a_of G side)
   read_content = record {
     cycles = cs;
     cocycles = part.cocycles.items;
@@ -177,12 +177,12 @@ module _ (p : ℕ) (G : Given) (T : Target) (is_target : G.target ≡ Some T) wh
   value_back cd cr (z ∷ zs) h =
       let b = blocks_back p (naming p G) (cubes p G) (images p G) 0 (length (cells_of (cubes p G))) (MatrixPart p G cd.cycles cr.cycles) zs h.1 in
       let m = matrix_back cd cr b.rest b.allowed in
-      let e : value_items p G T is_target cd cr b.vertices b.fillings b.images b.are b.many m.0 m.1 m.2.0 ≡ z ∷ zs =
+      let e : value_items p G T is_target cd cr b.vertices b.fillings b.images b.are b.many m.0 m.1 m.2 ≡ z ∷ zs =
       sym (ap (λ (y : Item). y ∷ zs) h.0 ∙ ap (λ (l : List Item). word_item (codes "values\n") ∷ l)
-      (b.is ∙ ap (λ (l : List Item). blocks_items p (naming p G) (cubes p G) (images p G) 0 b.vertices b.fillings b.images ++ l) m.2.1)) in (
-        tables p G T is_target cd cr b.vertices b.fillings b.images b.are b.many m.0 m.1 m.2.0,
-        fits p G T is_target cd cr b.vertices b.fillings b.images b.are b.many m.0 m.1 m.2.0,
-        laid p G T is_target cd cr b.vertices b.fillings b.images b.are b.many m.0 m.1 m.2.0
+      (b.is ∙ ap (λ (l : List Item). blocks_items p (naming p G) (cubes p G) (images p G) 0 b.vertices b.fillings b.images ++ l) m.3)) in (
+        tables p G T is_target cd cr b.vertices b.fillings b.images b.are b.many m.0 m.1 m.2,
+        fits p G T is_target cd cr b.vertices b.fillings b.images b.are b.many m.0 m.1 m.2,
+        laid p G T is_target cd cr b.vertices b.fillings b.images b.are b.many m.0 m.1 m.2
             ∙ ap (λ (l : List Item). section_items p G domain cd.cycles cd.cocycles cd.homotopies (section_items p G range cr.cycles cr.cocycles cr.homotopies l)) e,
       )
 
@@ -294,13 +294,11 @@ module _ (p : ℕ) (G : Given) (T : Target) (is_target : G.target ≡ Some T) (b
   parts = record { domain = part; map = Some m }
 
   value_is : W ≡ parts_value G parts
-  value_is = ap (λ (ms : List (List (List ℕ))). tables_with ms) (rows_read p (size_in m.range.cycles.items) (size_in part.cycles.items) 0 w.matrices.behind m.rows.items (codes "end\n") has)
-    where
-      tables_with : List (List (List ℕ)) → Tables
-      tables_with ms = record {
-        domain = tables_in cd;
-        map = Some (record { range = tables_in cr; vertices = m.vertices.items; fillings = fs; images = m.images.items; matrices = ms });
-      }
+  value_is = ap (λ (ms : List (List (List ℕ))). record {
+    domain = tables_in cd;
+    map = Some (record { range = tables_in cr; vertices = m.vertices.items; fillings = fs; images = m.images.items; matrices = ms });
+  })
+      (rows_read p (size_in m.range.cycles.items) (size_in part.cycles.items) 0 w.matrices.behind m.rows.items (codes "end\n") has)
 
   matrix_lines_are : lines_of w.last ≡ texts matrix_part
   matrix_lines_are =
