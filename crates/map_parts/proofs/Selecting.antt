@@ -1,0 +1,103 @@
+-- Images that are kept by a selector one after the other; and what is said of equal sets.
+use Rattle.std.proofs.Common.{◌≡◌, ℕ, ◌+◌, ◌<◌, ◌≤◌, refl, sym, ap, ◌∙◌, arith, ⊎_elim, List, [], ◌∷◌, ◌++◌, length, true, subst}
+use Rattle.std.proofs.lemmas.Bool.{cases_lt}
+use Rattle.elem_cubes.specs.Cells.{Factor}
+use Rattle.elem_cubes.specs.Laws.{cell_at}
+use Rattle.chains.specs.Terms.{coefficient}
+use Rattle.cube_sets.specs.Closures.{cells_of}
+use Rattle.cube_maps.specs.CubeMaps.{Naming}
+use Rattle.cell_complex.specs.Numbering.{by_cell}
+use Rattle.acyclic_values.specs.CarriedMaps.{IsCarriedMap}
+use Rattle.map_checks.specs.Carriers.{Carrying, IsCarrier}
+use Rattle.map_checks.specs.Faults.{together}
+use Rattle.chain_selector.specs.Selections.{Selection, IsSelection, Extends, domain_cells, range_cells, is_kept, kept_image}
+use Rattle.chain_selector.proofs.OneMap.{selections_are_of_one_map}
+use Rattle.witness_laws.specs.Parts.{nth}
+use Rattle.witness_parts.specs.Filed.{IsFiled, AreFiled}
+use Rattle.witness_parts.proofs.Degrees.{filed_none, filed_more}
+use Rattle.map_parts.specs.Values.{Carries, AreFiledContractions}
+use Rattle.map_parts.specs.Images.{AreFiledImages}
+use Rattle.map_parts.specs.Maps.{IsCarryingOf, carrying_of}
+
+-- the images of the first n cells are kept, and filed
+pub record AreImagesSoFar (p : ℕ) (old s : Selection) (cells all : List (List Factor)) (n : ℕ) (images : List (List (ℕ × ℕ))) : Type 0 where
+  pub extends : Extends old s
+  pub kept : (i : ℕ) → i < n → is_kept s (cell_at cells i) ≡ true
+  pub filed : AreFiled p all n (λ i. kept_image s (cell_at cells i)) images
+
+pub extends_itself : (s : Selection) → Extends s s
+extends_itself s = record { carrying = refl; kept = λ q k. (k, refl) }
+
+extends_further : (s t u : Selection) → Extends s t → Extends t u → Extends s u
+extends_further s t u v w = record {
+  carrying = w.carrying ∙ v.carrying;
+  kept = λ q k. let a = v.kept q k in let b = w.kept q a.0 in (b.0, b.1 ∙ a.1);
+}
+
+still : (s t : Selection) → Extends s t → (q : List Factor) → is_kept s q ≡ true → kept_image t q ≡ kept_image s q
+still s t e q k i = by_cell (cells_of (e.carrying i).range) (coefficient ((e.kept q k).1 i))
+
+pub none_so_far : (p : ℕ) (s : Selection) (cells all : List (List Factor)) (images : List (List (ℕ × ℕ))) → images ≡ [] → AreImagesSoFar p s s cells all 0 images
+none_so_far p s cells all images e = record {
+  extends = extends_itself s;
+  kept = λ i l. absurd (omega arith);
+  filed = subst (AreFiled p all 0 (λ i. kept_image s (cell_at cells i))) (sym e) (filed_none p all (λ i. kept_image s (cell_at cells i)));
+}
+
+pub one_so_far : (p : ℕ) (old s t : Selection) (cells all : List (List Factor)) (n : ℕ) (images new : List (List (ℕ × ℕ))) (z : List (ℕ × ℕ)) → AreImagesSoFar p old s cells all n images → Extends s t
+    → is_kept t (cell_at cells n) ≡ true → IsFiled p all (kept_image t (cell_at cells n)) z → new ≡ images ++ z ∷ [] → AreImagesSoFar p old t cells all (n + 1) new
+one_so_far p old s t cells all n images new z w e k f m = record {
+  extends = extends_further old s t w.extends e;
+  kept = λ i l. ⊎_elim
+      (λ h. (e.kept (cell_at cells i) (w.kept i h)).0)
+      (λ h. let g : i ≡ n = omega (arith, l, h) in ap (λ (j : ℕ). is_kept t (cell_at cells j)) g ∙ k)
+      (cases_lt i n);
+  filed = subst (AreFiled p all (n + 1) (λ i. kept_image t (cell_at cells i))) (sym m)
+      (filed_more p all n (λ i. kept_image t (cell_at cells i)) images z before f);
+}
+  where
+    before : AreFiled p all n (λ i. kept_image t (cell_at cells i)) images
+    before = record {
+      count = w.filed.count;
+      at = λ i l. subst (λ (c : List Factor → ℕ). IsFiled p all c (nth images i)) (sym (still s t e (cell_at cells i) (w.kept i l))) (w.filed.at i l);
+    }
+
+pub all_so_far : (p : ℕ) (old s : Selection) (cells all : List (List Factor)) (n : ℕ) (images : List (List (ℕ × ℕ))) → 1 ≤ p → AreImagesSoFar p old s cells all n images → n ≡ length cells
+    → cells ≡ domain_cells old → all ≡ range_cells old → IsSelection p s → AreFiledImages p old.carrying images
+all_so_far p old s cells all n images one w e d r sel =
+    let m = selections_are_of_one_map p s one sel in
+    let here : AreFiled p all (length cells) (λ i. m.map (cell_at cells i)) images = record {
+      count = w.filed.count ∙ e;
+      at = λ i l. let k : i < n = omega (arith, e, l) in
+          subst (λ (c : List Factor → ℕ). IsFiled p all c (nth images i)) (sym (m.kept (cell_at cells i) (w.kept i k))) (w.filed.at i k);
+    } in
+    record {
+      map = m.map;
+      carried = subst (λ (c : Carrying). IsCarriedMap p c.map c.domain c.range m.map) w.extends.carrying m.carried;
+      filed = subst (λ (l : List (List Factor)). AreFiled p l (length (domain_cells old)) (λ i. m.map (cell_at (domain_cells old) i)) images) r
+          (subst (λ (l : List (List Factor)). AreFiled p all (length l) (λ i. m.map (cell_at l i)) images) d here);
+    }
+
+-- ---- the same of the map and the sets of a carrier
+
+module _ (p : ℕ) (c : Carrying) (f : List Naming) (x a y b : List (List Factor)) (w : IsCarryingOf c f x a y b) where
+  pub images_over : (images : List (List (ℕ × ℕ))) → AreFiledImages p c images → AreFiledImages p (carrying_of f x a y b) images
+  images_over images h = record {
+    map = h.map;
+    carried = subst (λ (g : List Naming). IsCarriedMap p g (together x a) (together y b) h.map) w.map
+        (subst (λ (d : List (List Factor)). IsCarriedMap p c.map d (together y b) h.map) w.domain (subst (λ (r : List (List Factor)). IsCarriedMap p c.map c.domain r h.map) w.range h.carried));
+    filed = subst (λ (d : List (List Factor)). AreFiled p (cells_of (together y b)) (length (cells_of d)) (λ i. h.map (cell_at (cells_of d) i)) images) w.domain
+        (subst (λ (r : List (List Factor)). AreFiled p (cells_of r) (length (cells_of c.domain)) (λ i. h.map (cell_at (cells_of c.domain) i)) images) w.range h.filed);
+  }
+
+  pub carries_over : (d r : List (List Factor)) → d ≡ together x a → r ≡ together y b → IsCarrier p c → Carries p f d r
+  carries_over d r e h is =
+      subst (λ (g : List Naming). Carries p g d r) w.map
+      (subst (λ (l : List (List Factor)). Carries p c.map l r) (w.domain ∙ sym e) (subst (λ (l : List (List Factor)). Carries p c.map c.domain l) (w.range ∙ sym h) (c.dimension, is)))
+
+-- contractions of the values on equal sets
+pub values_over : (p : ℕ) (f : List Naming) (d r e s : List (List Factor)) (n m : ℕ) (vertices : List ℕ) (fillings : List (List (List (ℕ × ℕ)))) → d ≡ e → r ≡ s → n ≡ m
+    → AreFiledContractions p f d r n vertices fillings → AreFiledContractions p f e s m vertices fillings
+values_over p f d r e s n m vertices fillings a b c w =
+    subst (λ (k : ℕ). AreFiledContractions p f e s k vertices fillings) c
+    (subst (λ (l : List (List Factor)). AreFiledContractions p f e l n vertices fillings) b (subst (λ (l : List (List Factor)). AreFiledContractions p f l r n vertices fillings) a w))
