@@ -66,8 +66,8 @@ module _ (p : ℕ) (f : List Naming) (domain range value : List (List Factor)) (
 
 -- ---- one more value
 
-pub no_values : (p : ℕ) (f : List Naming) (domain range : List (List Factor)) → AreFiledContractions p f domain range 0 [] []
-no_values p f domain range = record { vertex_count = refl; count = refl; at = λ i l. absurd (omega arith) }
+pub no_values : (p : ℕ) (f : List Naming) (domain range : List (List Factor)) (vs : List ℕ) (gs : List (List (List (ℕ × ℕ)))) → vs ≡ [] → gs ≡ [] → AreFiledContractions p f domain range 0 vs gs
+no_values p f domain range vs gs a b = record { vertex_count = ap length a; count = ap length b; at = λ i l. absurd (omega arith) }
 
 front : {A : Type 0} (xs : List A) (x d : A) (i : ℕ) → i < length xs → get_or (xs ++ x ∷ []) i d ≡ get_or xs i d
 front [] x d i l = absurd (omega arith)
@@ -84,7 +84,7 @@ longer : {A : Type 0} (xs : List A) (x : A) → length (xs ++ x ∷ []) ≡ leng
 longer [] x = refl
 longer (y ∷ xs) x = let e = longer xs x in omega (arith, e)
 
-pub one_value : (p : ℕ) (f : List Naming) (domain range : List (List Factor)) (n v : ℕ) (vs : List ℕ) (gs : List (List (List (ℕ × ℕ)))) (g : List (List (ℕ × ℕ))) → AreFiledContractions p f domain range n vs gs
+one_value : (p : ℕ) (f : List Naming) (domain range : List (List Factor)) (n v : ℕ) (vs : List ℕ) (gs : List (List (List (ℕ × ℕ)))) (g : List (List (ℕ × ℕ))) → AreFiledContractions p f domain range n vs gs
     → IsFiledContraction p (cells_of range) (value_in f domain range n) v g → AreFiledContractions p f domain range (n + 1) (vs ++ v ∷ []) (gs ++ g ∷ [])
 one_value p f domain range n v vs gs g w one = record {
   vertex_count = longer vs v ∙ ap (λ (k : ℕ). k + 1) w.vertex_count;
@@ -100,3 +100,9 @@ one_value p f domain range n v vs gs g w one = record {
       (subst (λ (k : ℕ). IsFiledContraction p (cells_of range) (value_in f domain range k) v g) (sym m) one)))
       (cases_lt i n);
 }
+
+pub next_value : (p : ℕ) (f : List Naming) (domain range : List (List Factor)) (n v : ℕ) (vs us : List ℕ) (gs hs : List (List (List (ℕ × ℕ)))) (g : List (List (ℕ × ℕ))) → AreFiledContractions p f domain range n vs gs
+    → IsFiledContraction p (cells_of range) (value_in f domain range n) v g → us ≡ vs ++ v ∷ [] → hs ≡ gs ++ g ∷ [] → AreFiledContractions p f domain range (n + 1) us hs
+next_value p f domain range n v vs us gs hs g w one a b =
+    subst (λ (us : List ℕ). AreFiledContractions p f domain range (n + 1) us hs) (sym a)
+    (subst (λ (hs : List (List (List (ℕ × ℕ)))). AreFiledContractions p f domain range (n + 1) (vs ++ v ∷ []) hs) (sym b) (one_value p f domain range n v vs gs g w one))

@@ -23,14 +23,17 @@ use Rattle.witness_laws.specs.Tables.{Tables, PairTables, MapTables, tables_form
 use Rattle.witness_laws.proofs.Texts.{texts_have_their_lines, feed_append, feed_numeral}
 use Rattle.witness_types.specs.declared.heading.ClaimKind.TheVariants as kinds
 use Rattle.witness_types.specs.Headers.{version_line, modulus_line, kind_line, IsHeader, body_of}
+use Rattle.witness_types.specs.declared.part.PairPart.{PairPart}
+use Rattle.witness_types.specs.declared.part.MapPart.{MapPart}
 use Rattle.witness_types.specs.Inputs.{first_known}
+use Rattle.witness_types.specs.Parts.{pair_tables, map_tables}
 use Rattle.witness_writing.specs.Runs.{table_at}
 use Rattle.witness_writing.proofs.Counting.{kept_are}
-use Rattle.witness_parts.specs.Tables.{section_by, AreTablesOf, HasAtMost}
+use Rattle.witness_parts.specs.Tables.{section_by, AreTablesOf, HasAtMost, IsPartOf}
 use Rattle.witness_parts.specs.Witnesses.{top_of}
 use Rattle.witness_parts.proofs.Based.{based_section, based_cochains}
 use Rattle.witness_parts.proofs.Holding.{at_most}
-use Rattle.map_parts.specs.Maps.{given_map, map_value, map_text, top_of_map, AreMapTablesOf, AreInducedTables, IsMapWitness}
+use Rattle.map_parts.specs.Maps.{given_map, map_value, value_of_parts, map_text, top_of_map, AreMapTablesOf, IsMapPartOf, AreInducedTables, IsMapWitness}
 use Rattle.map_parts.proofs.Meeting.{IsMapAccepted, map_accepted}
 
 -- ---- dimensions
@@ -171,3 +174,25 @@ module _ (p : ℕ) (f : Mapping) (x a y b : Members) (cells : List (List Factor)
     made = tx;
     made_map = tm;
   }
+
+-- the same of parts
+module _ (p : ℕ) (f : Mapping) (x a y b : Members) (cells : List (List Factor)) (A : BasisOfLog) (others : List (List Factor)) (B : BasisOfLog) (ms : List Table) (one : 1 ≤ p)
+    (alike : AreOfOneDimension f x a y b) (nf : HasNoSetFault f.named x.cells a.cells y.cells b.cells) (sx : IsCubeSet x) (sy : IsCubeSet y) (sorted : IsSortedCells cells) (sorted_others : IsSortedCells others)
+    (RA : IsRelativeComplex p x.cells a.cells cells A.log.complex) (RB : IsRelativeComplex p y.cells b.cells others B.log.complex) (wa : IsBasisWithContraction p A) (wb : IsBasisWithContraction p B)
+    (ind : AreInducedTables p (top_of_map f x a y b) f.named x.cells a.cells y.cells b.cells (section_by p cells A) (section_by p others B) ms) (small : (k : ℕ) → k < length ms → IsTable p (table_at ms k))
+    (top : ℕ) (e : top ≡ top_of_map f x a y b) (part : PairPart p) (more : MapPart p) (is : IsPartOf top x.cells a.cells (section_by p cells A) part)
+    (is_more : IsMapPartOf top f.named x.cells a.cells y.cells b.cells (section_by p others B) ms more) where
+  abbrev t : ℕ
+  t = top_of_map f x a y b
+
+  tables : AreTablesOf p t x.cells a.cells (section_by p cells A) (pair_tables t part)
+  tables = (subst (λ (n : ℕ). IsPartOf n x.cells a.cells (section_by p cells A) part) e is).tables
+
+  more_tables : AreMapTablesOf p t f.named x.cells a.cells y.cells b.cells (section_by p others B) ms (map_tables t more)
+  more_tables = (subst (λ (n : ℕ). IsMapPartOf n f.named x.cells a.cells y.cells b.cells (section_by p others B) ms more) e is_more).tables
+
+  pub parts_accepted : IsMapAccepted p (given_map f x a y b) (value_of_parts t part more)
+  parts_accepted = accepted p f x a y b cells A others B ms one alike nf sx sy sorted sorted_others RA RB wa wb ind small (pair_tables t part) (map_tables t more) tables more_tables
+
+  pub parts_written : IsModulus p → (bytes : List ℕ) → bytes ≡ map_text p (given_map f x a y b) (value_of_parts t part more) → IsMapWitness p f x a y b cells A others B ms bytes
+  parts_written = is_witness p f x a y b cells A others B ms one alike nf sx sy sorted sorted_others RA RB wa wb ind small (pair_tables t part) (map_tables t more) tables more_tables

@@ -3,14 +3,18 @@ use Rattle.std.proofs.Common.{◌≡◌, ℕ, ◌+◌, ◌<◌, ◌≤◌, refl,
 use Rattle.std.proofs.lemmas.Bool.{cases_lt}
 use Rattle.elem_cubes.specs.Cells.{Factor}
 use Rattle.elem_cubes.specs.Laws.{cell_at}
+use Rattle.elem_cubes.proofs.Modular.{exact}
+use Rattle.field_mod.specs.Modular.{Same}
 use Rattle.chains.specs.Terms.{coefficient}
-use Rattle.cube_sets.specs.Closures.{cells_of}
+use Rattle.cube_sets.specs.Closures.{is_cell_of, cells_of}
 use Rattle.cube_maps.specs.CubeMaps.{Naming}
 use Rattle.cell_complex.specs.Numbering.{by_cell}
+use Rattle.cell_complex.proofs.Numbering.{listed}
+use Rattle.acyclic_values.proofs.Cells.{cells_listing}
 use Rattle.acyclic_values.specs.CarriedMaps.{IsCarriedMap}
 use Rattle.map_checks.specs.Carriers.{Carrying, IsCarrier}
 use Rattle.map_checks.specs.Faults.{together}
-use Rattle.chain_selector.specs.Selections.{Selection, IsSelection, Extends, domain_cells, range_cells, is_kept, kept_image}
+use Rattle.chain_selector.specs.Selections.{Selection, IsSelection, Extends, domain_cells, range_cells, is_kept, kept_terms, kept_image}
 use Rattle.chain_selector.proofs.OneMap.{selections_are_of_one_map}
 use Rattle.witness_laws.specs.Parts.{nth}
 use Rattle.witness_parts.specs.Filed.{IsFiled, AreFiled}
@@ -33,6 +37,31 @@ extends_further s t u v w = record {
   carrying = w.carrying ∙ v.carrying;
   kept = λ q k. let a = v.kept q k in let b = w.kept q a.0 in (b.0, b.1 ∙ a.1);
 }
+
+-- the cells stay what they are
+pub same_domain : (s t : Selection) → Extends s t → domain_cells s ≡ domain_cells t
+same_domain s t e = ap (λ (c : Carrying). cells_of c.domain) (sym e.carrying)
+
+pub same_range : (s t : Selection) → Extends s t → range_cells s ≡ range_cells t
+same_range s t e = ap (λ (c : Carrying). cells_of c.range) (sym e.carrying)
+
+-- what is kept is the filed chain
+pub kept_filed : (p : ℕ) (s t : Selection) (all : List (List Factor)) (q : List Factor) (ts us : List (ℕ × ℕ)) → Extends s t → all ≡ range_cells s → ts ≡ kept_terms t q → IsFiled p all (by_cell all (coefficient ts)) us → IsFiled p all (kept_image t q) us
+kept_filed p s t all q ts us e a k f =
+    let r : all ≡ range_cells t = a ∙ same_range s t e in
+    subst (λ (l : List (List Factor)). IsFiled p all (by_cell l (coefficient (kept_terms t q))) us) r (subst (λ (v : List (ℕ × ℕ)). IsFiled p all (by_cell all (coefficient v)) us) k f)
+
+-- a cell at a place is one of the domain
+pub cell_there : (s : Selection) (cells : List (List Factor)) (i : ℕ) → cells ≡ domain_cells s → i < length cells → is_cell_of s.carrying.domain (cell_at cells i) ≡ true
+cell_there s cells i e l =
+    let k : i < length (domain_cells s) = omega (arith, ap length e, l) in
+    ap (λ (ds : List (List Factor)). is_cell_of s.carrying.domain (cell_at ds i)) e ∙ listed (is_cell_of s.carrying.domain) (domain_cells s) (cells_listing s.carrying.domain) i k
+
+-- a kept image names cells of the range alone
+pub kept_within : (p : ℕ) (s t : Selection) (all : List (List Factor)) (q : List Factor) (ts : List (ℕ × ℕ)) → Extends s t → all ≡ range_cells s → IsSelection p t → ts ≡ kept_terms t q → (g : ℕ) → length all ≤ g → Same p (coefficient ts g) 0
+kept_within p s t all q ts e a sel k g l =
+    let r : all ≡ range_cells t = a ∙ same_range s t e in
+    exact p (ap (λ (v : List (ℕ × ℕ)). coefficient v g) k ∙ sel.numbers q g (omega (arith, ap length r, l)))
 
 still : (s t : Selection) → Extends s t → (q : List Factor) → is_kept s q ≡ true → kept_image t q ≡ kept_image s q
 still s t e q k i = by_cell (cells_of (e.carrying i).range) (coefficient ((e.kept q k).1 i))

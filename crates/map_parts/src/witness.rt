@@ -1,12 +1,14 @@
 //! The witness file of a map.
-ghost use Rattle.std.specs.Prelude.{◌≡◌, ◌==◌, if◌then◌else◌, IfOk};
+ghost use Rattle.std.specs.Prelude.{◌≡◌, ◌<◌, ◌==◌, ℕ, length, if◌then◌else◌, IfOk};
 ghost use Rattle.cell_complex.specs.Numbering.{IsRelativeComplex};
+ghost use Rattle.leray_conley.specs.Tables.{IsTable};
 ghost use Rattle.map_checks.specs.Carriers.{AreOfOneDimension};
 ghost use Rattle.map_checks.specs.Faults.{HasNoSetFault};
 ghost use Rattle.witness_laws.specs.Tables.{tables_format};
 ghost use Rattle.witness_types.specs.Inputs.{IsWithinTables};
 ghost use Rattle.witness_types.specs.Parts.{IsInOrder};
 ghost use Rattle.witness_types.specs.Texts.{IsWritable};
+ghost use Rattle.witness_writing.specs.Runs.{table_at};
 ghost use Rattle.witness_parts.specs.Tables.{section_by};
 ghost use Rattle.map_parts.specs.Maps.{IsCarryingOf, AreInducedTables, IsMapWitness};
 ghost use Rattle.map_parts.specs.Maps.{top_of_map, given_map, value_of_parts, map_text};
@@ -84,7 +86,16 @@ fn written<const P: u16>(
             b: _,
         } => {}
     }
-    text
+    Ok(text?)
+}
+
+// Matrices are tables.
+fn see_tables<const P: u16>(matrices: &[Matrix<P>])
+    ensures { (k : ℕ) → k < length matrices.now → IsTable P (table_at matrices.now k) }
+{
+    for place in 0..matrices.len() {
+        let _rows = matrices[place].rows();
+    }
 }
 
 /// The text of a witness of the map from the pair of x and a to that of y and b, which the
@@ -129,6 +140,7 @@ pub fn map_witness<const P: u16>(
     let _range_count = range_cells.len();
     let _dimension = domain.dimension(0);
     let _range_dimension = range.dimension(0);
+    see_tables(&matrices);
     let top = known_of_map(cube_map, x, a, y, b);
     let part = pair_part(alloc, field, x, a, domain_cells, domain, top)?;
     let more = map_part(
