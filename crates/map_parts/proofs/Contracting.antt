@@ -37,9 +37,9 @@ pub vertex_inside : (p : ℕ) (value all : List (List Factor)) (c : Contracted) 
 vertex_inside p value all c w inside = inside (cell_at value c.vertex) (Contains-get_or value c.vertex [] w.contracts.inside)
 
 -- a vertex and the chains, filed
-pub filed_contraction : (p : ℕ) (all value : List (List Factor)) (c : Contracted) (vertex : ℕ) (gs : List (List (ℕ × ℕ))) → IsContracted p value c → vertex ≡ number_of all (cell_at value c.vertex) + 1
+pub filed_contraction : (p : ℕ) (all value : List (List Factor)) (c : Contracted) (vertex : ℕ) (gs : List (List (ℕ × ℕ))) → IsContracted p value c → vertex ≡ suc (number_of all (cell_at value c.vertex))
     → AreFiled p all (length value) (λ m. by_cell value (homotopy_in c m)) gs → IsFiledContraction p all value vertex gs
-filed_contraction p all value c vertex gs w n f = record { at = c.vertex; chains = homotopy_in c; contracts = w.contracts; named = n; filed = f }
+filed_contraction p all value c vertex gs w n f = record { at = c.vertex; chains = homotopy_in c; contracts = w.contracts; named = n ∙ (let e : suc (number_of all (cell_at value c.vertex)) ≡ number_of all (cell_at value c.vertex) + 1 = omega arith in e); filed = f }
 
 -- the value at a cell of the domain
 module _ (p : ℕ) (f : List Naming) (domain range value : List (List Factor)) (i : ℕ) (w : Carries p f domain range) (l : i < length (cells_of domain)) (e : value ≡ value_in f domain range i) where

@@ -92,10 +92,10 @@ module _ (p top : ℕ) (f : List Naming) (x a y b : List (List Factor)) (X Y : S
   N = M.range
 
   value : (i : ℕ) → i < n → IsFiledContraction p (range_cells G) (value_at G i) (get_or M.vertices i 0) (get_or M.fillings i [])
-  value i l = tm.values.at i l
+  value i l = tm.cells.values.at i l
 
   many : length M.images ≡ n
-  many = tm.images.filed.count
+  many = tm.cells.images.filed.count
 
   -- ---- the form
 
@@ -104,12 +104,12 @@ module _ (p top : ℕ) (f : List Naming) (x a y b : List (List Factor)) (X Y : S
     domain = pair_fits p top x a X S tx;
     map = record {
       range = pair_fits p top y b Y N tm.range;
-      vertices = tm.values.vertex_count;
-      values = tm.values.count;
+      vertices = tm.cells.values.vertex_count;
+      values = tm.cells.values.count;
       images = many;
-      fillings = λ i l. (value i (omega (arith, l, tm.values.count))).filed.count;
-      filling_terms = λ i m l q. let w = value i (omega (arith, l, tm.values.count)) in (w.filed.at m (omega (arith, q, w.filed.count))).terms;
-      image_terms = λ i l. (tm.images.filed.at i (omega (arith, l, many))).terms;
+      fillings = λ i l. (value i (omega (arith, l, tm.cells.values.count))).filed.count;
+      filling_terms = λ i m l q. let w = value i (omega (arith, l, tm.cells.values.count)) in (w.filed.at m (omega (arith, q, w.filed.count))).terms;
+      image_terms = λ i l. (tm.cells.images.filed.at i (omega (arith, l, many))).terms;
       matrices = subst (λ (rs : List (List (List ℕ))). AreMatrices p top (λ k. length (in_degree N.cycles k)) (λ k. length (in_degree S.cycles k)) rs) (sym tm.matrices)
           (are_matrices p top f x a y b X Y ms S N ind tx tm.range small);
     };
@@ -155,7 +155,7 @@ module _ (p top : ℕ) (f : List Naming) (x a y b : List (List Factor)) (X Y : S
       at laws.Matrix = tt
 
   image_good : (i : ℕ) → i < n → IsGood p G W (image i)
-  image_good i l = record { names = imaged.degrees p G M.images nf tm.images.map tm.images.carried tm.images.filed i l; laws = at }
+  image_good i l = record { names = imaged.degrees p G M.images nf tm.cells.images.map tm.cells.images.carried tm.cells.images.filed i l; laws = at }
     where
       at : (law : Law) → holds p G W law (image i)
       at laws.Text = tt
@@ -166,9 +166,9 @@ module _ (p top : ℕ) (f : List Naming) (x a y b : List (List Factor)) (X Y : S
       at laws.Cocycle = tt
       at laws.Contraction = tt
       at laws.ValueContraction = tt
-      at laws.Carried = imaged.on_values p G M.images nf tm.images.map tm.images.carried tm.images.filed i l
-      at laws.Augmentation = imaged.augmented p G M.images nf tm.images.map tm.images.carried tm.images.filed i l
-      at laws.Commutes = imaged.commuting p G M.images nf tm.images.map tm.images.carried tm.images.filed i l
+      at laws.Carried = imaged.on_values p G M.images nf tm.cells.images.map tm.cells.images.carried tm.cells.images.filed i l
+      at laws.Augmentation = imaged.augmented p G M.images nf tm.cells.images.map tm.cells.images.carried tm.cells.images.filed i l
+      at laws.Commutes = imaged.commuting p G M.images nf tm.cells.images.map tm.cells.images.carried tm.cells.images.filed i l
       at laws.Matrix = tt
 
   abbrev fs : ℕ → List Line
@@ -197,9 +197,9 @@ module _ (p top : ℕ) (f : List Naming) (x a y b : List (List Factor)) (X Y : S
       let in_x : s < X.size k = (let e = (tx.cycles k l).count in omega (arith, e, m)) in
       let d = ind.each k (omega (arith, ind.count, l)) in
       let e : entry_of M.matrices k r s ≡ entry t r s = ap (λ (rs : List (List (List ℕ))). entry_of rs k r s) tm.matrices ∙ entry_is p top f x a y b X Y ms S N ind tx tm.range k r s l q m in
-      let g : Same p (entry t r s) (product_of_image (all_cells x a) (relative_cells y b) X Y tm.images.map k r s) =
-      products_of_class p y b (relative_cells y b) Y wy k (image_by (all_cells x a) tm.images.map (X.cycle k s)) (λ i. entry t i s) (d.induced tm.images.map tm.images.carried s in_x) r in_y in
-      same_trans (exact p e) (same_trans g (same_sym (products_alike p top G y b X Y S N tm.images.map M.images (imaged.images_alike p G M.images nf tm.images.map tm.images.carried tm.images.filed) tx tm.range k r s l in_y in_x)))
+      let g : Same p (entry t r s) (product_of_image (all_cells x a) (relative_cells y b) X Y tm.cells.images.map k r s) =
+      products_of_class p y b (relative_cells y b) Y wy k (image_by (all_cells x a) tm.cells.images.map (X.cycle k s)) (λ i. entry t i s) (d.induced tm.cells.images.map tm.cells.images.carried s in_x) r in_y in
+      same_trans (exact p e) (same_trans g (same_sym (products_alike p top G y b X Y S N tm.cells.images.map M.images (imaged.images_alike p G M.images nf tm.cells.images.map tm.cells.images.carried tm.cells.images.filed) tx tm.range k r s l in_y in_x)))
 
   row_good : (k r : ℕ) → k ≤ top → r < length (in_degree N.cycles k) → IsGood p G W (row k r)
   row_good k r l q = record { names = tt; laws = at }

@@ -13,15 +13,14 @@ use Rattle.cell_complex.proofs.Numbering.{listed}
 use Rattle.acyclic_values.proofs.Cells.{cells_listing}
 use Rattle.acyclic_values.specs.CarriedMaps.{IsCarriedMap}
 use Rattle.map_checks.specs.Carriers.{Carrying, IsCarrier}
-use Rattle.map_checks.specs.Faults.{together}
 use Rattle.chain_selector.specs.Selections.{Selection, IsSelection, Extends, domain_cells, range_cells, is_kept, kept_terms, kept_image}
 use Rattle.chain_selector.proofs.OneMap.{selections_are_of_one_map}
 use Rattle.witness_laws.specs.Parts.{nth}
 use Rattle.witness_parts.specs.Filed.{IsFiled, AreFiled}
 use Rattle.witness_parts.proofs.Degrees.{filed_none, filed_more}
-use Rattle.map_parts.specs.Values.{Carries, AreFiledContractions}
+use Rattle.map_parts.specs.Values.{Carries}
 use Rattle.map_parts.specs.Images.{AreFiledImages}
-use Rattle.map_parts.specs.Maps.{IsCarryingOf, carrying_of}
+use Rattle.map_parts.specs.Maps.{AreCellwise}
 
 -- the images of the first n cells are kept, and filed
 pub record AreImagesSoFar (p : ℕ) (old s : Selection) (cells all : List (List Factor)) (n : ℕ) (images : List (List (ℕ × ℕ))) : Type 0 where
@@ -109,24 +108,21 @@ all_so_far p old s cells all n images one w e d r sel =
 
 -- ---- the same of the map and the sets of a carrier
 
-module _ (p : ℕ) (c : Carrying) (f : List Naming) (x a y b : List (List Factor)) (w : IsCarryingOf c f x a y b) where
-  pub images_over : (images : List (List (ℕ × ℕ))) → AreFiledImages p c images → AreFiledImages p (carrying_of f x a y b) images
-  images_over images h = record {
-    map = h.map;
-    carried = subst (λ (g : List Naming). IsCarriedMap p g (together x a) (together y b) h.map) w.map
-        (subst (λ (d : List (List Factor)). IsCarriedMap p c.map d (together y b) h.map) w.domain (subst (λ (r : List (List Factor)). IsCarriedMap p c.map c.domain r h.map) w.range h.carried));
-    filed = subst (λ (d : List (List Factor)). AreFiled p (cells_of (together y b)) (length (cells_of d)) (λ i. h.map (cell_at (cells_of d) i)) images) w.domain
-        (subst (λ (r : List (List Factor)). AreFiled p (cells_of r) (length (cells_of c.domain)) (λ i. h.map (cell_at (cells_of c.domain) i)) images) w.range h.filed);
+module _ (p : ℕ) (c : Carrying) (f : List Naming) (d r : List (List Factor)) (m : c.map ≡ f) (e : c.domain ≡ d) (h : c.range ≡ r) where
+  pub images_over : (images : List (List (ℕ × ℕ))) → AreFiledImages p c images → AreFiledImages p (record { dimension = 0; map = f; domain = d; range = r }) images
+  images_over images w = record {
+    map = w.map;
+    carried = subst (λ (g : List Naming). IsCarriedMap p g d r w.map) m
+        (subst (λ (l : List (List Factor)). IsCarriedMap p c.map l r w.map) e (subst (λ (l : List (List Factor)). IsCarriedMap p c.map c.domain l w.map) h w.carried));
+    filed = subst (λ (l : List (List Factor)). AreFiled p (cells_of r) (length (cells_of l)) (λ i. w.map (cell_at (cells_of l) i)) images) e
+        (subst (λ (l : List (List Factor)). AreFiled p (cells_of l) (length (cells_of c.domain)) (λ i. w.map (cell_at (cells_of c.domain) i)) images) h w.filed);
   }
 
-  pub carries_over : (d r : List (List Factor)) → d ≡ together x a → r ≡ together y b → IsCarrier p c → Carries p f d r
-  carries_over d r e h is =
-      subst (λ (g : List Naming). Carries p g d r) w.map
-      (subst (λ (l : List (List Factor)). Carries p c.map l r) (w.domain ∙ sym e) (subst (λ (l : List (List Factor)). Carries p c.map c.domain l) (w.range ∙ sym h) (c.dimension, is)))
+  pub carries_over : IsCarrier p c → Carries p f d r
+  carries_over is =
+      subst (λ (g : List Naming). Carries p g d r) m
+      (subst (λ (l : List (List Factor)). Carries p c.map l r) e (subst (λ (l : List (List Factor)). Carries p c.map c.domain l) h (c.dimension, is)))
 
--- contractions of the values on equal sets
-pub values_over : (p : ℕ) (f : List Naming) (d r e s : List (List Factor)) (n m : ℕ) (vertices : List ℕ) (fillings : List (List (List (ℕ × ℕ)))) → d ≡ e → r ≡ s → n ≡ m
-    → AreFiledContractions p f d r n vertices fillings → AreFiledContractions p f e s m vertices fillings
-values_over p f d r e s n m vertices fillings a b c w =
-    subst (λ (k : ℕ). AreFiledContractions p f e s k vertices fillings) c
-    (subst (λ (l : List (List Factor)). AreFiledContractions p f e l n vertices fillings) b (subst (λ (l : List (List Factor)). AreFiledContractions p f l r n vertices fillings) a w))
+pub cellwise_over : (p : ℕ) (f : List Naming) (d r e s : List (List Factor)) (vs : List ℕ) (gs : List (List (List (ℕ × ℕ)))) (images : List (List (ℕ × ℕ))) → d ≡ e → r ≡ s → AreCellwise p f d r vs gs images → AreCellwise p f e s vs gs images
+cellwise_over p f d r e s vs gs images a b w =
+    subst (λ (l : List (List Factor)). AreCellwise p f e l vs gs images) b (subst (λ (l : List (List Factor)). AreCellwise p f l r vs gs images) a w)

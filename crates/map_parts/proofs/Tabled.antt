@@ -20,6 +20,7 @@ use Rattle.witness_laws.specs.Tables.{PairTables, MapTables, section_of}
 use Rattle.witness_laws.proofs.Runs.{length_singles}
 use Rattle.witness_types.specs.Rows.{row_of, rows_of}
 use Rattle.witness_writing.specs.Runs.{table_at}
+use Rattle.witness_writing.proofs.Filling.{found_at}
 use Rattle.witness_writing.proofs.Pairs.{get_singles}
 use Rattle.witness_parts.specs.Tables.{AreTablesOf}
 use Rattle.map_parts.specs.Maps.{AreInducedTables}
@@ -123,3 +124,12 @@ module _ (p top : ℕ) (G : Given) (y b : List (List Factor)) (X Y : Section) (S
       (λ g _. same-mul (((ty.cocycles k l).at r q).same (cell_at rel g)) (same_trans (alike (U.cycle k s) (cell_at rel g))
       (total_same p (length ds) (λ i. U.cycle k s (cell_at ds i) * f (cell_at ds i) (cell_at rel g)) (λ i. X.cycle k s (cell_at ds i) * f (cell_at ds i) (cell_at rel g))
       (λ i _. same-mul (((tx.cycles k l).at s m).same (cell_at ds i)) (same_refl p (f (cell_at ds i) (cell_at rel g)))))))
+
+-- one more matrix is a table
+pub one_table : (p : ℕ) (ts : List Table) (n : ℕ) (t : Table) → n < length ts → t ≡ get_or ts n t → IsTable p t → ((k : ℕ) → k < n → IsTable p (table_at ts k)) → (k : ℕ) → k < n + 1 → IsTable p (table_at ts k)
+one_table p ts n t l e is before k q = ⊎_elim
+    (λ h. before k h)
+    (λ h.
+    let m : k ≡ n = omega (arith, q, h) in
+    subst (λ (j : ℕ). IsTable p (table_at ts j)) (sym m) (subst (IsTable p) (found_at ts n t (record { rows = 0; columns = 0; entries = [] }) l e) is))
+    (cases_lt k n)

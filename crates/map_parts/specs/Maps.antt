@@ -2,6 +2,7 @@
 use Rattle.std.specs.Prelude.{◌≡◌, ℕ, ◌+◌, ◌<◌, List, [], ◌∷◌, length, map, slice_index_or, Some}
 use Rattle.elem_cubes.specs.Cells.{Factor}
 use Rattle.cube_sets.specs.Sets.{Members}
+use Rattle.cube_sets.specs.Closures.{cells_of}
 use Rattle.cube_maps.specs.CubeMaps.{Naming, Mapping}
 use Rattle.acyclic_values.specs.CarriedMaps.{IsInducedMatrix}
 use Rattle.map_checks.specs.Carriers.{Carrying}
@@ -9,7 +10,7 @@ use Rattle.map_checks.specs.Faults.{together}
 use Rattle.homology_basis.specs.Bases.{BasisOfLog}
 use Rattle.leray_conley.specs.Tables.{Table, entry}
 use Rattle.witness_laws.specs.Formats.{IsAccepted}
-use Rattle.witness_laws.specs.Inputs.{Given, all_cells}
+use Rattle.witness_laws.specs.Inputs.{Given}
 use Rattle.witness_laws.specs.Sections.{Section}
 use Rattle.witness_laws.specs.Tables.{Tables, PairTables, MapTables, tables_format}
 use Rattle.witness_types.specs.declared.heading.ClaimKind.TheVariants as kinds
@@ -32,19 +33,20 @@ pub record IsCarryingOf (c : Carrying) (f : List Naming) (x a y b : List (List F
   pub domain : c.domain ≡ together x a
   pub range : c.range ≡ together y b
 
-abbrev pub carrying_of : List Naming → List (List Factor) → List (List Factor)
-    → List (List Factor) → List (List Factor) → Carrying
-carrying_of f x a y b =
-    record { dimension = 0; map = f; domain = together x a; range = together y b }
+-- contractions of the values, and images, of all cells of the domain
+pub record AreCellwise (p : ℕ) (f : List Naming) (domain range : List (List Factor))
+    (vertices : List ℕ) (fillings : List (List (List (ℕ × ℕ)))) (images : List (List (ℕ × ℕ)))
+    : Type 0 where
+  pub values : AreFiledContractions p f domain range (length (cells_of domain)) vertices fillings
+  pub images : AreFiledImages p
+      (record { dimension = 0; map = f; domain = domain; range = range }) images
 
 -- the tables of a map are those of the section of its range up to a last degree, contractions of
 -- the values and images of all cells of the domain, and the matrices
 pub record AreMapTablesOf (p top : ℕ) (f : List Naming) (x a y b : List (List Factor))
     (S : Section) (ms : List Table) (M : MapTables) : Type 0 where
   pub range : AreTablesOf p top y b S M.range
-  pub values : AreFiledContractions p f (together x a) (together y b) (length (all_cells x a))
-      M.vertices M.fillings
-  pub images : AreFiledImages p (carrying_of f x a y b) M.images
+  pub cells : AreCellwise p f (together x a) (together y b) M.vertices M.fillings M.images
   pub matrices : M.matrices ≡ map rows_of ms
 
 -- the part has such tables, and that of the range is in order

@@ -6,12 +6,12 @@ ghost use Rattle.chain_selector.specs.Selections.{is_kept, kept_image, Extends};
 ghost use Rattle.witness_parts.specs.Filed.{IsFiled};
 ghost use Rattle.map_parts.specs.Images.{AreFiledImages};
 
+use crate::filing::filed;
 use cell_complex::Numbered;
 use chain_selector::Selector;
 use chains::Chain;
 use field_mod::Field;
 use std::alloc::{AllocError as NoMemory, Global};
-use witness_parts::filed;
 
 // The image of the cell of the domain in this place.
 fn image_at<const P: u16>(
@@ -44,17 +44,16 @@ pub(crate) fn images_of<const P: u16>(
     field: Field<P>,
     cells: &Numbered,
     all: &Numbered,
-    selector: Selector<P>,
+    selector: &mut Selector<P>,
 ) -> Result<Vec<Chain<P>>, NoMemory>
-    requires cells { cells.now ≡ domain_cells selector }
-    requires all { all.now ≡ range_cells selector }
+    requires cells { cells.now ≡ domain_cells selector.old }
+    requires all { all.now ≡ range_cells selector.old }
     requires few { length all.now ≤ 4096 }
-    ensures { IfOk result (λ images. AreFiledImages P selector.entry.carrying images.items) }
+    ensures { IfOk result (λ images. AreFiledImages P selector.old.carrying images.items) }
 {
-    let mut selector = selector;
     let mut images = Vec::new(alloc);
     for place in 0..cells.len() {
-        images.push(image_at(alloc, field, place, cells, all, &mut selector)?)?;
+        images.push(image_at(alloc, field, place, cells, all, selector)?)?;
     }
     // Its clauses hand out what a selector keeps.
     let _dimension = selector.dimension();

@@ -1,6 +1,7 @@
 //! The part of a map in a witness file, and the whole file of a map.
 #![tactic(auto)]
 
+mod filing;
 mod images;
 mod part;
 mod values;

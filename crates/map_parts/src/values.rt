@@ -1,5 +1,5 @@
 //! Contractions of the values of a map, by the numbers of a witness file.
-ghost use Rattle.std.specs.Prelude.{◌≡◌, ◌<◌, ◌≤◌, ◌+◌, List, length, map, IfOk};
+ghost use Rattle.std.specs.Prelude.{◌≡◌, ◌<◌, ◌≤◌, suc, List, length, map, IfOk};
 ghost use Rattle.std.specs.List.{Contains};
 ghost use Rattle.elem_cubes.specs.Cells.{Factor};
 ghost use Rattle.elem_cubes.specs.Laws.{cell_at};
@@ -15,6 +15,7 @@ ghost use Rattle.witness_parts.specs.Filed.{IsFiled, AreFiled};
 ghost use Rattle.witness_writing.specs.Runs.{value_in};
 ghost use Rattle.map_parts.specs.Values.{Carries, IsFiledContraction, AreFiledContractions};
 
+use crate::filing::filed;
 use acyclic_values::{Contraction, ValueFault, contract_value};
 use cell_complex::Numbered;
 use chains::Chain;
@@ -24,7 +25,6 @@ use elem_cubes::Cell;
 use field_mod::Field;
 use map_checks::value_at;
 use std::alloc::{AllocError as NoMemory, Global};
-use witness_parts::filed;
 
 // The contraction of a list of cells that is acyclic.
 fn contraction_of<const P: u16>(
@@ -44,6 +44,19 @@ fn contraction_of<const P: u16>(
     }
 }
 
+// The number in the file of one of these cells, which are few.
+#[tactic(auto, using(cell_complex::proofs::Sorting::number_below))]
+fn number_in(all: &Numbered, cell: &Cell) -> u32
+    requires inside { Contains all.now cell.now }
+    requires few { length all.now ≤ 4096 }
+    ensures { result ≡ suc (number_of all.now cell.now) }
+{
+    let Some(number) = all.number(cell) else {
+        unreachable!();
+    };
+    number + 1
+}
+
 // The number in the file of the vertex of a contraction.
 fn filed_vertex<const P: u16>(
     contraction: &Contraction<P>,
@@ -53,13 +66,10 @@ fn filed_vertex<const P: u16>(
     requires contracted { IsContracted P value.now contraction.now }
     requires inside { (q : List Factor) → Contains value.now q → Contains all.now q }
     requires few { length all.now ≤ 4096 }
-    ensures { result ≡ number_of all.now (cell_at value.now contraction.now.vertex) + 1 }
+    ensures { result ≡ suc (number_of all.now (cell_at value.now contraction.now.vertex)) }
 {
     let cell = value.cell(contraction.vertex());
-    let Some(number) = all.number(&cell) else {
-        unreachable!();
-    };
-    number + 1
+    number_in(all, &cell)
 }
 
 // The chain of a place.

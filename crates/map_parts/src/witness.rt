@@ -113,14 +113,14 @@ pub fn map_witness<const P: u16>(
     domain: &Basis<P>,
     range_cells: &Numbered,
     range: &Basis<P>,
-    selector: Selector<P>,
+    selector: &mut Selector<P>,
     matrices: Vec<Matrix<P>>,
 ) -> Result<Vec<u8>, NoMemory>
     requires alike { AreOfOneDimension cube_map.now x.now a.now y.now b.now }
     requires faultless { HasNoSetFault cube_map.now.named x.now.cells a.now.cells y.now.cells
         b.now.cells }
     requires limits { IsWithinTables (given_map cube_map.now x.now a.now y.now b.now) }
-    requires carrying { IsCarryingOf selector.carrying cube_map.now.named x.now.cells
+    requires carrying { IsCarryingOf selector.old.carrying cube_map.now.named x.now.cells
         a.now.cells y.now.cells b.now.cells }
     requires relative { IsRelativeComplex P x.now.cells a.now.cells domain_cells.now
         domain.now.log.complex }
