@@ -35,11 +35,11 @@ pub record IsCarryingOf (c : Carrying) (f : List Naming) (x a y b : List (List F
 
 -- contractions of the values, and images, of all cells of the domain
 pub record AreCellwise (p : ℕ) (f : List Naming) (domain range : List (List Factor))
-    (vertices : List ℕ) (fillings : List (List (List (ℕ × ℕ)))) (images : List (List (ℕ × ℕ)))
+    (vertices : List ℕ) (fillings : List (List (List (ℕ × ℕ)))) (zs : List (List (ℕ × ℕ)))
     : Type 0 where
   pub values : AreFiledContractions p f domain range (length (cells_of domain)) vertices fillings
   pub images : AreFiledImages p
-      (record { dimension = 0; map = f; domain = domain; range = range }) images
+      (record { dimension = 0; map = f; domain = domain; range = range }) zs
 
 -- the tables of a map are those of the section of its range up to a last degree, contractions of
 -- the values and images of all cells of the domain, and the matrices
