@@ -1,0 +1,54 @@
+-- How large the values of a map are.
+use Rattle.std.proofs.Common.{◌≡◌, ℕ, zero, suc, ◌+◌, ◌*◌, ◌<◌, ◌≤◌, refl, sym, ap, ◌∙◌, subst, arith, List, [], ◌∷◌, length, filter, Bool, true, false, cond}
+use Rattle.std.proofs.Math.Nat.{mul-le-mul_left}
+use Rattle.elem_cubes.specs.Cells.{Factor}
+use Rattle.field_mod.specs.Sums.{total}
+use Rattle.cube_sets.specs.Closures.{is_cell_of}
+use Rattle.acyclic_values.specs.Values.{in_value, IsValueAt}
+use Rattle.acyclic_values.proofs.Values.{values_are_one}
+use Rattle.map_checks.specs.Faults.{together, AreNamed}
+use Rattle.pair_maps.specs.declared.inputs.PairMap.{PairMap}
+use Rattle.witness_laws.specs.Inputs.{Given, all_cells, value_cells}
+use Rattle.witness_laws.proofs.Mapping.{is_value}
+use Rattle.replay_tool.specs.declared.inputs.Subject.TheVariants as subjects
+use Rattle.replay_tool.specs.Inputs.{target_of_map, given_of}
+use Rattle.replay_tool.specs.Refusals.{square, HasFew, IsSound}
+
+-- a sum up to one more
+pub total_more : (n : ℕ) (f : ℕ → ℕ) → total (suc n) f ≡ total n f + f n
+total_more zero f = omega arith
+total_more (suc n) f = let e = total_more n (λ i. f (suc i)) in omega (arith, e)
+
+-- a filtered list is no longer
+filter_shorter : {A : Type 0} (test : A → Bool) (xs : List A) → length (filter test xs) ≤ length xs
+filter_shorter test [] = omega arith
+filter_shorter test (x ∷ xs) = by (test x) (filter_shorter test xs)
+  where
+    by : (b : Bool) → length (filter test xs) ≤ length xs → length (cond b (x ∷ filter test xs) (filter test xs)) ≤ suc (length xs)
+    by true l = omega (arith, l)
+    by false l = omega (arith, l)
+
+module _ (m : PairMap) (few : HasFew (given_of (subjects.Map m))) (sound : IsSound (subjects.Map m)) where
+  abbrev D : List (List Factor)
+  D = together m.x.cells m.a.cells
+
+  abbrev G : Given
+  G = given_of (subjects.Map m)
+
+  abbrev value : List Factor → List (List Factor)
+  value s = value_cells (target_of_map m) m.x.cells m.a.cells s
+
+  pub value_few : (s : List Factor) → length (value s) ≤ 4096
+  value_few s = let l = filter_shorter (in_value m.map.named D s) (all_cells m.y.cells m.b.cells) in omega (arith, l, few.range)
+
+  pub square_few : (s : List Factor) → square (length (value s)) ≤ 16777216
+  square_few s = let l = mul-le-mul_left (length (value s)) (value_few s) in omega (arith, l, value_few s)
+
+  -- the list that was made is the value
+  pub made_is : (domain : List (List Factor)) (s : List Factor) (made : List (List Factor)) → domain ≡ D → is_cell_of domain s ≡ true → IsValueAt m.map.named domain s made → made ≡ value s
+  made_is domain s made e c v = values_are_one m.map.named D s made (value s)
+      (subst (λ (d : List (List Factor)). IsValueAt m.map.named d s made) e v)
+      (is_value G sound s (subst (λ (d : List (List Factor)). is_cell_of d s ≡ true) e c))
+
+  pub named_in : (domain : List (List Factor)) → domain ≡ D → AreNamed m.map.named domain
+  named_in domain e = subst (AreNamed m.map.named) (sym e) sound.named

@@ -1,0 +1,7 @@
+//! Whether a witness file meets the laws, and what it claims.
+#![tactic(auto)]
+
+mod replaying;
+mod stubs;
+
+pub use replaying::replay;
