@@ -1,9 +1,9 @@
 -- What each tool is asked to do by words, as a job that is judged in one way.
-use Rattle.std.specs.Prelude.{ℕ, List, [], None, Some, unwrap_or}
+use Rattle.std.specs.Prelude.{ℕ, List, [], Option, None, Some, unwrap_or}
 use Rattle.command_line.specs.declared.form.ToolName.{ToolName}
 use Rattle.command_line.specs.declared.form.ToolName.TheVariants as tools
 use Rattle.command_line.specs.Words.{Request, first, second, third, fourth}
-use Rattle.loading.specs.Jobs.{Job, HasOneJudgement}
+use Rattle.loading.specs.Jobs.{Job, IsJudgedOnce, HasOneJudgement}
 use Rattle.set_tools.specs.declared.cubunion.Combination.{Combination}
 use Rattle.set_tools.specs.declared.cubunion.Combination.TheVariants.{Union, Intersection}
 use Rattle.set_tools.specs.declared.cubunion.CombinationJob.{CombinationJob}
@@ -24,6 +24,9 @@ use Rattle.map_homology.proofs.Judging as of_map_homologies
 use Rattle.map_tools.specs.declared.values_job.ValuesJob.{ValuesJob}
 use Rattle.map_tools.specs.Jobs as maps
 use Rattle.map_tools.proofs.Judging as of_maps
+use Rattle.pair_witness.specs.Jobs as witnesses
+use Rattle.pair_witness.proofs.Judging as of_witnesses
+use Rattle.tool.specs.Tasks.{Task, alone}
 use Rattle.chain_tool.specs.Jobs as chains
 use Rattle.chain_tool.proofs.Judging as of_chains
 
@@ -95,16 +98,22 @@ holes_of r = record {
 
 -- ---- all tools
 
--- a job, and that it is judged in one way
+-- a task, and that its job is judged in one way
 pub record Judged : Type 1 where
-  pub job : Job
-  pub once : HasOneJudgement job
+  pub task : Task
+  pub once : IsJudgedOnce task.job
 
+-- a job whose text alone is written
 abbrev pub judged : (job : Job) → HasOneJudgement job → Judged
-judged job once = record { job = job; once = once }
+judged job judgement = record { task = alone job; once = judgement.once }
 
-abbrev judged_pair : PairJob → Judged
-judged_pair job = judged (pairs.pair_job job) (of_pairs.pair_once job)
+abbrev judged_pair : PairJob → Option (List ℕ) → Judged
+judged_pair job None = judged (pairs.pair_job job) (of_pairs.pair_once job)
+judged_pair job (Some file) =
+    record {
+      task = witnesses.witness_task job file;
+      once = (of_witnesses.witness_once job file).once;
+    }
 
 abbrev judged_combination : CombinationJob → Judged
 judged_combination job = judged (sets.combination_job job) (of_sets.combination_once job)
@@ -116,7 +125,7 @@ abbrev judged_map : MapJob → Judged
 judged_map job = judged (map_homologies.map_job job) (of_map_homologies.map_once job)
 
 abbrev pub judged_by : ToolName → Request → Judged
-judged_by tools.Homcubes r = judged_pair (pair_of r)
+judged_by tools.Homcubes r = judged_pair (pair_of r) r.options.witness
 judged_by tools.MapHomology r = judged_map (map_of r)
 judged_by tools.Cubunion r = judged_combination (two_files Union r)
 judged_by tools.Cubinter r = judged_combination (two_files Intersection r)
@@ -127,9 +136,9 @@ judged_by tools.Gen r = judged (gens.holes_job (holes_of r)) (of_gens.holes_once
 judged_by tools.Chkmvmap r =
     judged (maps.values_job (values_of r)) (of_maps.values_once (values_of r))
 
-abbrev pub job_by : ToolName → Request → Job
-job_by tool r = (judged_by tool r).job
+abbrev pub task_by : ToolName → Request → Task
+task_by tool r = (judged_by tool r).task
 
 -- what a command asks
-abbrev pub job_of : Request → Job
-job_of r = job_by r.tool r
+abbrev pub task_of : Request → Task
+task_of r = task_by r.tool r

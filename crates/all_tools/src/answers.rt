@@ -1,7 +1,9 @@
 //! From a command to its answer, for whichever tool it names.
 ghost use Rattle.loading.specs.Jobs.{Answers};
-ghost use Rattle.all_tools.specs.Jobs.{job_by, pair_of, two_files, chain_of, holes_of, values_of, map_of};
+ghost use Rattle.all_tools.specs.Jobs.{task_by, pair_of, two_files, chain_of, holes_of, values_of, map_of};
+ghost use Rattle.tool.specs.Tasks.{Provides};
 ghost use Rattle.pair_tool.specs.Jobs.{pair_job};
+ghost use Rattle.pair_witness.specs.Jobs.{witness_task};
 ghost use Rattle.set_tools.specs.Jobs.{combination_job};
 ghost use Rattle.chain_tool.specs.Jobs.{chain_job};
 ghost use Rattle.gen_tool.specs.Jobs.{holes_job};
@@ -11,36 +13,69 @@ ghost use Rattle.map_tools.specs.Jobs.{values_job};
 use crate::jobs::{chain_job, combination_job, holes_job, map_job, pair_job, values_job};
 use chain_tool::homology_of_file;
 use command_line::{Command, ToolName};
-use faults::Fault;
+use faults::{Fault, Name};
 use gen_tool::generate;
 use loading::Answer;
 use map_homology::homology_of_map;
 use map_tools::check_map;
 use outside::Files;
 use pair_tool::homology_of_pair;
+use pair_witness::witnessed_homology;
 use set_tools::{Combination, combine};
 use std::alloc::Global;
+use tool::{Output, alone};
 
-/// What a tool answers to a command, or the first refusal.
+/// What a tool writes to answer a command, or the first refusal.
+#[tactic(auto, using(tool::proofs::Lifting::lifts))]
 pub fn answer_by<F: Files>(
     alloc: Global,
     files: &mut F,
     tool: ToolName,
     command: &Command,
-) -> Result<Answer, Fault>
-    ensures { Answers (job_by tool command.now) (F.seen files.old) (F.seen files.new) result }
+) -> Result<Output, Fault>
+    ensures { Provides (task_by tool command.now) (F.seen files.old) (F.seen files.new) result }
 {
     match tool {
-        ToolName::Homcubes => pair_answer(alloc, files, command),
-        ToolName::MapHomology => map_answer(alloc, files, command),
-        ToolName::Cubunion => combination_answer(alloc, files, command, Combination::Union),
-        ToolName::Cubinter => combination_answer(alloc, files, command, Combination::Intersection),
-        ToolName::Cubnbhd => set_tools::neighbours(alloc, files, command.first()),
-        ToolName::Cubcells => set_tools::cells(alloc, files, command.first()),
-        ToolName::Homchain => chain_answer(alloc, files, command),
-        ToolName::Gen => holes_answer(alloc, files, command),
-        ToolName::Chkmvmap => values_answer(alloc, files, command),
+        ToolName::Homcubes => pair_output(alloc, files, command),
+        ToolName::MapHomology => alone(map_answer(alloc, files, command)),
+        ToolName::Cubunion => {
+            alone(combination_answer(alloc, files, command, Combination::Union))
+        }
+        ToolName::Cubinter => {
+            alone(combination_answer(alloc, files, command, Combination::Intersection))
+        }
+        ToolName::Cubnbhd => alone(set_tools::neighbours(alloc, files, command.first())),
+        ToolName::Cubcells => alone(set_tools::cells(alloc, files, command.first())),
+        ToolName::Homchain => alone(chain_answer(alloc, files, command)),
+        ToolName::Gen => alone(holes_answer(alloc, files, command)),
+        ToolName::Chkmvmap => alone(values_answer(alloc, files, command)),
     }
+}
+
+// The homology of a set or a pair, and its witness where one is wanted.
+#[tactic(auto, using(tool::proofs::Lifting::lifts))]
+fn pair_output<F: Files>(alloc: Global, files: &mut F, command: &Command) -> Result<Output, Fault>
+    ensures { Provides (task_by ToolName.Homcubes command.now)
+        (F.seen files.old) (F.seen files.new) result }
+{
+    match command.options().witness() {
+        Some(file) => pair_witnessed(alloc, files, command, file),
+        None => alone(pair_answer(alloc, files, command)),
+    }
+}
+
+// The homology of a set or a pair with its witness.
+fn pair_witnessed<F: Files>(
+    alloc: Global,
+    files: &mut F,
+    command: &Command,
+    file: &Name,
+) -> Result<Output, Fault>
+    ensures { Provides (witness_task (pair_of command.now) file.now)
+        (F.seen files.old) (F.seen files.new) result }
+{
+    let job = pair_job(alloc, command)?;
+    witnessed_homology(alloc, files, &job, file)
 }
 
 // The homology of a set or a pair.

@@ -1,12 +1,11 @@
 //! The words of the command line as one more thing that a run may be asked to do.
 use crate::answers::answer_by;
 use faults::Fault;
-use loading::Answer;
 use outside::Files;
 use parsing::command_of;
 use std::alloc::Global;
 use std::marker::Model;
-use tool::Tool;
+use tool::{Output, Tool};
 
 /// The words after the program's name, which contracts see as their bytes.
 #[derive(Drop)]
@@ -38,11 +37,11 @@ impl<'a> Line<'a> {
 impl<'a> Tool for Line<'a> {
     ghost use Rattle.all_tools.specs.Lines.{asked, line_once};
 
-    ghost job = { asked };
+    ghost task = { asked };
 
     ghost one_judgement = { line_once };
 
-    fn answer<F: Files>(&self, alloc: Global, files: &mut F) -> Result<Answer, Fault> {
+    fn answer<F: Files>(&self, alloc: Global, files: &mut F) -> Result<Output, Fault> {
         let command = command_of(alloc, self.words)?;
         answer_by(alloc, files, command.tool(), &command)
     }

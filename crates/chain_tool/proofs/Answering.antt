@@ -22,7 +22,7 @@ use Rattle.chain_tool.proofs.Judging.{content_plain}
 module _ (job : ChainJob) (old new : Seen) where
   by_load : (fault : Fault) → Loads {A = Content} read_bytes (IsContentIn job.modulus job.file) old new (Err fault) → Answers (chain_job job) old new (Err fault)
   unfolding chain_job
-  by_load fault h = record { right = tt; fault = inl h.fault; given = h.given; left = h.holds }
+  by_load fault h = record { right = tt; fault = inl h.fault; given = h.given; left = h.holds; writes = h.writes }
 
   -- the file is not read
   pub bytes_refused : (fault : Fault) → Loads {A = List ℕ} read_bytes (λ read. Finds read file_bytes job.file) old new (Err fault) → Answers (chain_job job) old new (Err fault)
@@ -51,5 +51,6 @@ module _ (job : ChainJob) (old new : Seen) where
       fault = tt;
       given = h.given;
       left = h.holds;
+      writes = h.writes;
     }
     complex_answered content dimensions cycles printed (Err fault) is right e text_is err = by_load fault (loaded (Err fault) tt (inr err))

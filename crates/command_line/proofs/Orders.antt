@@ -3,7 +3,7 @@ use Rattle.std.proofs.Common.{◌≡◌, ℕ, suc, Bool, true, false, cond, ◌|
 use Rattle.std.specs.Prelude.{nat_le, length}
 use Rattle.std.specs.Option.{option_map, option_and_then}
 use Rattle.command_line.specs.declared.choice.Choice.{Choice}
-use Rattle.command_line.specs.declared.choice.Choice.TheVariants.{Modulus, Cycles, Stats, Map, Matrix, Index, SetAlone}
+use Rattle.command_line.specs.declared.choice.Choice.TheVariants.{Modulus, Cycles, Stats, Map, Matrix, Index, Witness, SetAlone}
 use Rattle.command_line.specs.declared.choice.Setting.{Setting}
 use Rattle.command_line.specs.Forms.{Anything, Row, Spoken, form_named, stands_alone, same_choice, is_set, setting_of, are_once, has_alone, agree, of_map, form_with, are_operands, words_read}
 use Rattle.command_line.specs.Words.{modulus_by, modulus_in, with_modulus, options_in, with_options, chosen_of, request_by, request_of, formed, command_with, command_of}
@@ -59,6 +59,7 @@ same_self Stats = refl
 same_self Map = refl
 same_self Matrix = refl
 same_self Index = refl
+same_self Witness = refl
 same_self SetAlone = refl
 
 pub same_is : (d c : Choice) → same_choice d c ≡ true → d ≡ c
@@ -68,6 +69,7 @@ same_is Stats Stats e = refl
 same_is Map Map e = refl
 same_is Matrix Matrix e = refl
 same_is Index Index e = refl
+same_is Witness Witness e = refl
 same_is SetAlone SetAlone e = refl
 same_is d c e = absurd (true≢false (sym e))
 
@@ -131,6 +133,7 @@ module _ (form : Row) (o : List (List ℕ)) (a b : List Setting) (p : SaySame a 
         map = option_and_then (λ (s : Setting). s.value) (p.first e Map i);
         matrix = p.set Matrix i;
         index = p.set Index i;
+        witness = option_and_then (λ (s : Setting). s.value) (p.first e Witness i);
         set_alone = p.set SetAlone i;
       } in
       ap (λ f. option_map f (modulus_in a)) with_same ∙ ap (λ s. option_map (with_modulus b) (modulus_by s)) (p.first e Modulus)
@@ -149,7 +152,7 @@ module _ (form : Row) (o : List (List ℕ)) (a b : List Setting) (p : SaySame a 
   fits_same true = once_same (are_once a) (are_once b) refl p.once
 
   agree_same : agree a ≡ agree b
-  agree_same = λ i. (nat_le (p.many i) 1 || not (p.alone i)) && (p.set Map i || not (p.set Matrix i || p.set Index i))
+  agree_same = λ i. (nat_le (p.many i) 1 || not (p.alone i)) && not (cond (p.set Map i) (p.set Witness i) (p.set Matrix i || p.set Index i))
 
   by_same : request_by form (of a) ≡ request_by form (of b)
   by_same =

@@ -5,7 +5,7 @@ use Rattle.std.specs.Option.{option_map, option_and_then}
 use Rattle.std.specs.List.{position_or_len}
 use Rattle.std.specs.Str.{bytes_eq}
 use Rattle.command_line.specs.declared.choice.Choice.{Choice}
-use Rattle.command_line.specs.declared.choice.Choice.TheVariants.{Modulus, Map}
+use Rattle.command_line.specs.declared.choice.Choice.TheVariants.{Modulus, Map, Witness}
 use Rattle.command_line.specs.Forms.{Anything, Nothing, Row, Spoken, form_named, named, option_name, option_named, takes_value, is_plain, is_empty, is_equals, also, alone, valued, word_first, words_read}
 use Rattle.command_line.specs.Words.{request_of, formed, command_with, command_of}
 use Rattle.command_line.specs.Laws.{AreWhole}
@@ -39,8 +39,10 @@ module _ (form : Row) (value : List ℕ) (after : List (List ℕ)) (plain : is_p
   same_takes : (choice c : Choice) → takes_value choice ≡ true → bytes_eq (option_name choice) (option_name c) ≡ true → takes_value c ≡ true
   same_takes choice Modulus takes e = refl
   same_takes choice Map takes e = refl
+  same_takes choice Witness takes e = refl
   same_takes Modulus c takes e = cc
   same_takes Map c takes e = cc
+  same_takes Witness c takes e = cc
   same_takes choice c takes e = cc
 
   named_takes : (choice : Choice) → takes_value choice ≡ true → (c : Choice) → option_named form (option_name choice) ≡ Some c → takes_value c ≡ true
@@ -55,6 +57,9 @@ module _ (form : Row) (value : List ℕ) (after : List (List ℕ)) (plain : is_p
   map_sign : nat_lt (position_or_len is_equals (joined Map)) (length (joined Map)) ≡ true
   map_sign = lt-ltb 5 (length (joined Map)) (omega arith)
 
+  witness_sign : nat_lt (position_or_len is_equals (joined Witness)) (length (joined Witness)) ≡ true
+  witness_sign = lt-ltb 9 (length (joined Witness)) (omega arith)
+
   choice_ways : (choice : Choice) → takes_value choice ≡ true
       → words_read form Anything (joined choice ∷ after) ≡ words_read form Anything (option_name choice ∷ value ∷ after)
   choice_ways Modulus takes =
@@ -63,6 +68,9 @@ module _ (form : Row) (value : List ℕ) (after : List (List ℕ)) (plain : is_p
   choice_ways Map takes =
       ap (λ b. word_first (cond b (valued (option_named form (codes "--map")) value) (alone (option_named form (joined Map)))) (λ next. words_read form next after)) map_sign
       ∙ either_way (option_named form (codes "--map")) (named_takes Map takes)
+  choice_ways Witness takes =
+      ap (λ b. word_first (cond b (valued (option_named form (codes "--witness")) value) (alone (option_named form (joined Witness)))) (λ next. words_read form next after)) witness_sign
+      ∙ either_way (option_named form (codes "--witness")) (named_takes Witness takes)
   choice_ways choice takes = cc
 
 pub two_ways : (name : List ℕ) (form : Row) → form_named name ≡ Some form

@@ -8,7 +8,7 @@ use Rattle.std.specs.declared.string.String.{String}
 use Rattle.command_line.specs.declared.form.ToolName.{ToolName}
 use Rattle.command_line.specs.declared.form.ToolName.TheVariants as tools
 use Rattle.command_line.specs.declared.choice.Choice.{Choice}
-use Rattle.command_line.specs.declared.choice.Choice.TheVariants.{Modulus, Cycles, Stats, Map, Matrix, Index, SetAlone}
+use Rattle.command_line.specs.declared.choice.Choice.TheVariants.{Modulus, Cycles, Stats, Map, Matrix, Index, Witness, SetAlone}
 use Rattle.command_line.specs.declared.choice.Setting.{Setting}
 use Rattle.command_line.specs.Operands.{holes_named}
 pub use Rattle.command_line.specs.Operands.{named}
@@ -33,7 +33,7 @@ of_homology = Modulus ∷ Cycles ∷ []
 
 -- the options of the tool on pairs of sets and on maps between such pairs
 abbrev pub of_pairs : List Choice
-of_pairs = Modulus ∷ Cycles ∷ Stats ∷ Map ∷ Matrix ∷ Index ∷ []
+of_pairs = Modulus ∷ Cycles ∷ Stats ∷ Map ∷ Matrix ∷ Index ∷ Witness ∷ []
 
 -- the options of the tool on the values of maps
 abbrev pub of_maps : List Choice
@@ -63,6 +63,7 @@ option_name Stats = codes "--stats"
 option_name Map = codes "--map"
 option_name Matrix = codes "--matrix"
 option_name Index = codes "--index"
+option_name Witness = codes "--witness"
 option_name SetAlone = codes "--set"
 
 abbrev pub takes_value : Choice → Bool
@@ -72,6 +73,7 @@ takes_value Stats = false
 takes_value Map = true
 takes_value Matrix = false
 takes_value Index = false
+takes_value Witness = true
 takes_value SetAlone = false
 
 -- whether the option stands with no other
@@ -208,6 +210,7 @@ same_choice Stats Stats = true
 same_choice Map Map = true
 same_choice Matrix Matrix = true
 same_choice Index Index = true
+same_choice Witness Witness = true
 same_choice SetAlone SetAlone = true
 same_choice choice other = false
 
@@ -222,18 +225,22 @@ abbrev pub are_once : List Setting → Bool
 are_once [] = true
 are_once (s ∷ ss) = not (is_set s.choice ss) && are_once ss
 
--- no other option stands beside one that stands alone, and matrices and index matrices are those of
--- a map
+-- no other option stands beside one that stands alone, matrices and index matrices are those of a
+-- map, and a witness is that of a pair
 abbrev pub has_alone : List Setting → Bool
 has_alone settings = list_any (λ s. stands_alone s.choice) settings
 
 abbrev pub asks_of_map : List Setting → Bool
 asks_of_map settings = is_set Matrix settings || is_set Index settings
 
+abbrev pub is_amiss : List Setting → Bool
+is_amiss settings =
+    if is_set Map settings then is_set Witness settings else asks_of_map settings
+
 abbrev pub agree : List Setting → Bool
 agree settings =
     (nat_le (length settings) 1 || not (has_alone settings))
-    && (is_set Map settings || not (asks_of_map settings))
+    && not (is_amiss settings)
 
 -- the form that the options choose: with a map it is that of maps, whose operands are the domain,
 -- its subset, the range and its subset

@@ -5,7 +5,8 @@ use Rattle.field_mod.specs.Moduli.{moduli}
 use Rattle.faults.specs.declared.fault.Fault.{Fault}
 use Rattle.faults.specs.declared.fault.Fault.TheVariants.{NoTool, NotAForm, OutOfMemory}
 use Rattle.command_line.specs.declared.form.ToolName.{ToolName}
-use Rattle.command_line.specs.declared.choice.Choice.TheVariants.{Modulus, Cycles, Stats, Map, Matrix, Index, SetAlone}
+use Rattle.command_line.specs.declared.choice.Choice.{Choice}
+use Rattle.command_line.specs.declared.choice.Choice.TheVariants.{Modulus, Cycles, Stats, Map, Matrix, Index, Witness, SetAlone}
 use Rattle.command_line.specs.declared.choice.Setting.{Setting}
 use Rattle.command_line.specs.Forms.{Anything, Row, Spoken, named, form_named, words_read, is_set, setting_of, form_with, fitting}
 
@@ -24,13 +25,13 @@ modulus_by (Some s) = modulus_named s.value
 abbrev pub modulus_in : List Setting → Option ℕ
 modulus_in settings = modulus_by (setting_of settings Modulus)
 
--- the file of a map that the options name
-abbrev pub map_in : List Setting → Option (List ℕ)
-map_in settings = option_and_then (λ s. s.value) (setting_of settings Map)
+-- the value of an option, where one is set
+abbrev pub value_in : List Setting → Choice → Option (List ℕ)
+value_in settings choice = option_and_then (λ s. s.value) (setting_of settings choice)
 
 -- the modulus, whether the cycles are printed, whether the counts are, the map, whether its
--- matrices are printed, whether its index matrices are, and whether a set is, and nothing of its
--- homology
+-- matrices are printed, whether its index matrices are, the file of a witness, and whether a set is
+-- printed, and nothing of its homology
 pub record Chosen : Type 0 where
   pub modulus : ℕ
   pub cycles : Bool
@@ -38,6 +39,7 @@ pub record Chosen : Type 0 where
   pub map : Option (List ℕ)
   pub matrix : Bool
   pub index : Bool
+  pub witness : Option (List ℕ)
   pub set_alone : Bool
 
 -- where matrices are printed, so are the cycles
@@ -46,9 +48,10 @@ with_modulus settings modulus = record {
   modulus = modulus;
   cycles = is_set Cycles settings || is_set Matrix settings;
   stats = is_set Stats settings;
-  map = map_in settings;
+  map = value_in settings Map;
   matrix = is_set Matrix settings;
   index = is_set Index settings;
+  witness = value_in settings Witness;
   set_alone = is_set SetAlone settings;
 }
 

@@ -19,12 +19,14 @@ pub enum Choice {
     Matrix,
     /// That the index matrices of a map are printed too. It stands beside `Map` alone.
     Index,
+    /// The file that a witness of what is printed is written to.
+    Witness,
     /// That a set is printed, and nothing of its homology. It stands with no other option.
     SetAlone,
 }
 
 /// An option as it stands among the words, with its value where it takes one.
-#[derive(Drop)]
+#[derive(Debug, Drop)]
 pub struct Setting {
     pub choice: Choice,
     pub value: Option<Name>,
@@ -42,6 +44,7 @@ impl Choice {
             Choice::Map => "--map",
             Choice::Matrix => "--matrix",
             Choice::Index => "--index",
+            Choice::Witness => "--witness",
             Choice::SetAlone => "--set",
         }
     }
@@ -57,6 +60,7 @@ impl Choice {
             Choice::Map => "map",
             Choice::Matrix => "matrix",
             Choice::Index => "index",
+            Choice::Witness => "witness",
             Choice::SetAlone => "set",
         }
     }
@@ -72,6 +76,7 @@ impl Choice {
             Choice::Map => true,
             Choice::Matrix => false,
             Choice::Index => false,
+            Choice::Witness => true,
             Choice::SetAlone => false,
         }
     }
@@ -87,7 +92,8 @@ impl Choice {
             | Choice::Stats
             | Choice::Map
             | Choice::Matrix
-            | Choice::Index => false,
+            | Choice::Index
+            | Choice::Witness => false,
         }
     }
 
@@ -102,6 +108,7 @@ impl Choice {
             (Choice::Map, Choice::Map) => true,
             (Choice::Matrix, Choice::Matrix) => true,
             (Choice::Index, Choice::Index) => true,
+            (Choice::Witness, Choice::Witness) => true,
             (Choice::SetAlone, Choice::SetAlone) => true,
             _ => false,
         }

@@ -47,13 +47,14 @@ impl Model for Form {
 const OF_HOMOLOGY: [Choice; 2] = [Choice::Modulus, Choice::Cycles];
 
 // The options of the tool on pairs of sets and on maps between such pairs.
-const OF_PAIRS: [Choice; 6] = [
+const OF_PAIRS: [Choice; 7] = [
     Choice::Modulus,
     Choice::Cycles,
     Choice::Stats,
     Choice::Map,
     Choice::Matrix,
     Choice::Index,
+    Choice::Witness,
 ];
 
 // The options of the tool on the values of maps.

@@ -3,7 +3,7 @@ ghost use Rattle.std.specs.Prelude.{◌≡◌, IfSome};
 ghost use Rattle.std.specs.Option.{option_map};
 ghost use Rattle.field_mod.specs.Moduli.{IsModulus};
 ghost use Rattle.command_line.specs.Forms.{setting_of};
-ghost use Rattle.command_line.specs.Words.{map_in, modulus_in, modulus_named, options_in};
+ghost use Rattle.command_line.specs.Words.{modulus_in, modulus_named, options_in, value_in};
 
 use crate::arguments::is_set;
 use crate::choice::{Choice, Setting};
@@ -15,29 +15,16 @@ use std::marker::Model;
 #[derive(Debug, Drop)]
 pub struct Options {
     modulus: u16,
-    cycles: bool,
-    stats: bool,
-    map: Option<Name>,
-    matrix: bool,
-    index: bool,
-    set_alone: bool,
+    settings: Vec<Setting>,
 }
 
 impl Model for Options {
     ghost use Rattle.field_mod.specs.Moduli.{IsModulus};
-    ghost use Rattle.command_line.specs.Words.{Chosen};
+    ghost use Rattle.command_line.specs.Words.{Chosen, with_modulus};
 
     ghost Value = { Chosen };
 
-    ghost view = { λ o. record {
-      modulus = o.modulus;
-      cycles = o.cycles;
-      stats = o.stats;
-      map = o.map;
-      matrix = o.matrix;
-      index = o.index;
-      set_alone = o.set_alone;
-    } };
+    ghost view = { λ o. with_modulus o.settings.items o.modulus };
 
     ghost invariant = { λ o. IsModulus o.modulus };
 }
@@ -48,21 +35,7 @@ impl Options {
         ensures { result ≡ options_in settings.items }
     {
         let modulus = modulus_in(&settings)?;
-        let matrix = is_set(Choice::Matrix, &settings);
-        let cycles = is_set(Choice::Cycles, &settings) || matrix;
-        let stats = is_set(Choice::Stats, &settings);
-        let index = is_set(Choice::Index, &settings);
-        let set_alone = is_set(Choice::SetAlone, &settings);
-        let map = map_in(settings);
-        Some(Options {
-            modulus,
-            cycles,
-            stats,
-            map,
-            matrix,
-            index,
-            set_alone,
-        })
+        Some(Options { modulus, settings })
     }
 
     /// The modulus of the coefficients.
@@ -77,42 +50,49 @@ impl Options {
     pub fn cycles(&self) -> bool
         ensures { result ≡ self.now.cycles }
     {
-        self.cycles
+        is_set(Choice::Cycles, &self.settings) || is_set(Choice::Matrix, &self.settings)
     }
 
     /// Whether the counts are printed.
     pub fn stats(&self) -> bool
         ensures { result ≡ self.now.stats }
     {
-        self.stats
+        is_set(Choice::Stats, &self.settings)
     }
 
     /// The file of a map, where one is named.
     pub fn map(&self) -> Option<&Name>
         ensures { option_map (λ name. name.now) result ≡ self.now.map }
     {
-        self.map.as_ref()
+        value_in(&self.settings, Choice::Map)
     }
 
     /// Whether the matrices of a map are printed.
     pub fn matrix(&self) -> bool
         ensures { result ≡ self.now.matrix }
     {
-        self.matrix
+        is_set(Choice::Matrix, &self.settings)
     }
 
     /// Whether the index matrices of a map are printed.
     pub fn index(&self) -> bool
         ensures { result ≡ self.now.index }
     {
-        self.index
+        is_set(Choice::Index, &self.settings)
+    }
+
+    /// The file that a witness is written to, where one is named.
+    pub fn witness(&self) -> Option<&Name>
+        ensures { option_map (λ name. name.now) result ≡ self.now.witness }
+    {
+        value_in(&self.settings, Choice::Witness)
     }
 
     /// Whether a set is printed, and nothing of its homology.
     pub fn set_alone(&self) -> bool
         ensures { result ≡ self.now.set_alone }
     {
-        self.set_alone
+        is_set(Choice::SetAlone, &self.settings)
     }
 }
 
@@ -150,14 +130,10 @@ fn setting_of(settings: &[Setting], choice: Choice) -> Option<&Setting>
     None
 }
 
-// The file of a map that the options name.
-fn map_in(settings: Vec<Setting>) -> Option<Name>
-    ensures { result ≡ map_in settings.items }
+// The value of an option, where one is set.
+fn value_in(settings: &[Setting], choice: Choice) -> Option<&Name>
+    ensures { option_map (λ name. name.now) result ≡ value_in settings.now choice }
 {
-    for setting in settings {
-        if setting.choice.is(Choice::Map) {
-            return setting.value;
-        }
-    }
-    None
+    let setting = setting_of(settings, choice)?;
+    setting.value.as_ref()
 }

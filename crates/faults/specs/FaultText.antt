@@ -2,13 +2,15 @@
 use Rattle.std.specs.Prelude.{ℕ, List, ◌++◌, codes, decimal}
 use Rattle.faults.specs.declared.cause.Cause.{Cause}
 use Rattle.faults.specs.declared.cause.Cause.TheVariants.{BadByte, BadNumber, NotClosed, MixedDimension, DimensionTooLarge, CoordinateTooLarge, NotElementary, NotFull, UnknownGenerator, RepeatedGenerator}
+use Rattle.faults.specs.declared.law.Law.{Law}
+use Rattle.faults.specs.declared.law.Law.TheVariants as laws
 use Rattle.faults.specs.declared.fault.Fault.{Fault}
-use Rattle.faults.specs.declared.fault.Fault.TheVariants.{NoTool, NotAForm, CannotRead, BadText, NotComplex, Dimension, Limit, Undefined, LeavesRange, LeavesSubset, EmptyValue, NotAcyclic, NotInRange, NotInSubset, Killed, Missed, CannotWriteOut, OutOfMemory}
+use Rattle.faults.specs.declared.fault.Fault.TheVariants.{NoTool, NotAForm, CannotRead, BadText, NotComplex, Dimension, Limit, Undefined, LeavesRange, LeavesSubset, EmptyValue, NotAcyclic, NotInRange, NotInSubset, Killed, Missed, LawFails, CannotWriteOut, CannotWrite, OutOfMemory}
 use Rattle.elem_cubes.specs.Cells.{Factor, lower_of}
 use Rattle.corner_texts.specs.CornerText.{corner_text}
 use Rattle.faults.specs.ChainText.{cell_text, chain_text}
 use Rattle.faults.specs.declared.limit_name.LimitName.{LimitName}
-use Rattle.faults.specs.declared.limit_name.LimitName.TheVariants.{FileBytes, Cubes, MapPairs, Cells, MatrixEntries, Generators, Terms, Coordinates}
+use Rattle.faults.specs.declared.limit_name.LimitName.TheVariants.{FileBytes, Cubes, MapPairs, Cells, MatrixEntries, Generators, Terms, WitnessCells, CarrierSize, Coordinates}
 
 -- the name of a count that has a limit
 abbrev pub limit_name : LimitName → List ℕ
@@ -19,6 +21,8 @@ limit_name Cells = codes "cells"
 limit_name MatrixEntries = codes "matrix-entries"
 limit_name Generators = codes "generators"
 limit_name Terms = codes "terms"
+limit_name WitnessCells = codes "witness-cells"
+limit_name CarrierSize = codes "carrier-size"
 limit_name Coordinates = codes "coordinates"
 
 -- why a text is refused at a place
@@ -33,6 +37,21 @@ cause_text NotElementary = codes "not an elementary cube"
 cause_text NotFull = codes "not a full cube"
 cause_text UnknownGenerator = codes "unknown generator"
 cause_text RepeatedGenerator = codes "repeated generator"
+
+-- the name of a law on the lines of a witness file
+abbrev pub law_name : Law → List ℕ
+law_name laws.Header = codes "Header"
+law_name laws.Text = codes "Text"
+law_name laws.Cell = codes "Cell"
+law_name laws.Cycle = codes "Cycle"
+law_name laws.Dual = codes "Dual"
+law_name laws.Cocycle = codes "Cocycle"
+law_name laws.Contraction = codes "Contraction"
+law_name laws.ValueContraction = codes "ValueContraction"
+law_name laws.Carried = codes "Carried"
+law_name laws.Augmentation = codes "Augmentation"
+law_name laws.Commutes = codes "Commutes"
+law_name laws.Matrix = codes "Matrix"
 
 -- a full cube by its lower corner
 abbrev pub cube_text : List Factor → List ℕ
@@ -81,5 +100,9 @@ fault_text (Killed degree chain) =
 fault_text (Missed degree chain) =
     codes "error: index: degree " ++ decimal degree ++ codes ": missed: "
     ++ chain_text cell_text chain ++ codes "\n"
+fault_text (LawFails name line law) =
+    codes "error: " ++ name ++ codes ": line " ++ decimal line ++ codes ": " ++ law_name law
+    ++ codes "\n"
 fault_text CannotWriteOut = codes "error: cannot write standard output\n"
+fault_text (CannotWrite name) = codes "error: cannot write " ++ name ++ codes "\n"
 fault_text OutOfMemory = codes "error: out of memory\n"

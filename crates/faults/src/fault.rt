@@ -4,7 +4,7 @@ ghost use Rattle.faults.specs.FaultText.{fault_text};
 
 use crate::index_lines::{not_included_text, not_invertible_text};
 use crate::map_lines::{empty_value_text, leaves_text, not_acyclic_text, undefined_text};
-use crate::{Cause, CellChain, LimitName, Name};
+use crate::{Cause, CellChain, Law, LimitName, Name};
 use elem_cubes::Cell;
 use itoa::{Buffer, Integer};
 use std::alloc::{AllocError as NoMemory, Global};
@@ -112,9 +112,21 @@ pub enum Fault {
         degree: u8,
         chain: CellChain,
     },
+    /// A law fails on a line of a witness file, counted from 1.
+    #[error("{name}: line {line}: {law}")]
+    LawFails {
+        name: Name,
+        line: u64,
+        law: Law,
+    },
     /// A write to standard output failed.
     #[error("cannot write standard output")]
     CannotWriteOut,
+    /// A write of a file failed.
+    #[error("cannot write {name}")]
+    CannotWrite {
+        name: Name,
+    },
     /// Memory ran out.
     #[error("out of memory")]
     OutOfMemory,
@@ -176,7 +188,9 @@ pub fn fault_text(alloc: Global, fault: &Fault) -> Result<Vec<u8>, NoMemory>
         Fault::Missed { degree, chain } => {
             not_invertible_text(alloc, *degree, b": missed: ", chain)
         }
+        Fault::LawFails { name, line, law } => law_text(alloc, name, *line, *law),
         Fault::CannotWriteOut => Vec::from_slice(alloc, b"error: cannot write standard output\n"),
+        Fault::CannotWrite { name } => frame(alloc, b"error: cannot write ", name, b"\n"),
         Fault::OutOfMemory => Vec::from_slice(alloc, b"error: out of memory\n"),
     }
 }
@@ -258,4 +272,16 @@ fn limit_text(alloc: Global, count: LimitName, number: u64) -> Result<Vec<u8>, N
     put_after(&mut line, b": ", number)?;
     line.extend_from_slice(b"\n")?;
     Ok(line)
+}
+
+// The line on a law that fails.
+fn law_text(alloc: Global, name: &Name, line: u64, law: Law) -> Result<Vec<u8>, NoMemory>
+    ensures { IfOk result (λ text. text.items ≡ fault_text (Fault.LawFails name.now line law)) }
+{
+    let mut text = frame(alloc, b"error: ", name, b": line ")?;
+    put_after(&mut text, b"", line)?;
+    text.extend_from_slice(b": ")?;
+    text.extend_from_slice(law.as_str().as_bytes())?;
+    text.extend_from_slice(b"\n")?;
+    Ok(text)
 }

@@ -21,6 +21,10 @@ pub enum LimitName {
     Generators,
     /// The terms of one chain file.
     Terms,
+    /// The cells of a set whose chains a witness file names.
+    WitnessCells,
+    /// The sum of the squares of the numbers of cells of the values of a map.
+    CarrierSize,
     /// The ends of the cubes of a neighbourhood.
     Coordinates,
 }
@@ -38,6 +42,8 @@ impl LimitName {
             LimitName::MatrixEntries => "matrix-entries",
             LimitName::Generators => "generators",
             LimitName::Terms => "terms",
+            LimitName::WitnessCells => "witness-cells",
+            LimitName::CarrierSize => "carrier-size",
             LimitName::Coordinates => "coordinates",
         }
     }

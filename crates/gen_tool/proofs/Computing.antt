@@ -24,8 +24,8 @@ use Rattle.gen_tool.specs.Jobs.{RefusesNothing, IsGenerated, IsEither, holes_job
 -- what is computed without files answers the job
 pub answered_alone : (job : HolesJob) (old : Seen) (result : Result (List ℕ) Fault) → Computes RefusesNothing (IsGenerated job) tt result → Answers (holes_job job) old old result
 unfolding holes_job
-answered_alone job old (Ok text) c = record { right = (tt, (refl, λ fault r. r), c.right); fault = tt; given = omega arith; left = refl }
-answered_alone job old (Err fault) c = record { right = tt; fault = rests c.fault; given = omega arith; left = refl }
+answered_alone job old (Ok text) c = record { right = (tt, (refl, λ fault r. r), c.right); fault = tt; given = omega arith; left = refl; writes = λ name. omega arith }
+answered_alone job old (Err fault) c = record { right = tt; fault = rests c.fault; given = omega arith; left = refl; writes = λ name. omega arith }
   where
     rests : (⊥ ⊎ (fault ≡ OutOfMemory)) → RestsOn (holes_job job) old old fault
     rests (inl r) = absurd r

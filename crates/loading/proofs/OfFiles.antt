@@ -12,7 +12,7 @@ use Rattle.grid_files.specs.declared.fault.TextCause.{TextCause}
 use Rattle.grid_files.specs.declared.fault.TextCause.TheVariants.{BadByte, BadNumber, Unclosed, MixedDimension, DimensionTooLarge, CoordinateTooLarge, NotElementary, NotFull, TooMany}
 use Rattle.grid_files.proofs.Outcomes.{one_outcome}
 use Rattle.faults.specs.declared.fault.Fault.{Fault}
-use Rattle.faults.specs.declared.fault.Fault.TheVariants.{BadText, NotComplex, Dimension, CannotRead, Limit}
+use Rattle.faults.specs.declared.fault.Fault.TheVariants.{BadText, NotComplex, Dimension, CannotRead, Limit, LawFails}
 use Rattle.faults.specs.declared.limit_name.LimitName.TheVariants.{FileBytes}
 use Rattle.loading.specs.Steps.{Then, Is, IsOne}
 use Rattle.loading.specs.Readings.{Reading, Finds, reading, told, but_for, file_bytes}
@@ -26,6 +26,7 @@ IsPlain (NotComplex name degree generator value at) = Unit {0}
 IsPlain (Dimension name found earlier) = Unit {0}
 IsPlain (Limit FileBytes number) = ⊥
 IsPlain (Limit count number) = Unit {0}
+IsPlain (LawFails name line law) = Unit {0}
 IsPlain fault = ⊥
 
 -- a step that reads nothing: it has one outcome, and refuses with faults of what was read

@@ -26,12 +26,12 @@ refused_only fault read (Err other) (inl e) = cc
 refused_only fault read (Err other) (inr (input, given, r)) = ap (λ f. Err f) r
 
 pub refusal : (fault : Fault) (old : Seen) → Answers (refused_job fault) old old (Err fault)
-refusal fault old = record { right = tt; fault = inr (tt, refl, refl); given = omega arith; left = refl }
+refusal fault old = record { right = tt; fault = inr (tt, refl, refl); given = omega arith; left = refl; writes = λ name. omega arith }
 
 -- any job may end for want of memory
 pub no_memory : (job : Job) (old : Seen) (fault : Fault) → fault ≡ OutOfMemory → Answers job old old (Err fault)
-no_memory job old fault e = record { right = tt; fault = inl (inl e); given = omega arith; left = refl }
+no_memory job old fault e = record { right = tt; fault = inl (inl e); given = omega arith; left = refl; writes = λ name. omega arith }
 
 -- what the files of a job are refused with, the job is refused with
 pub load_refused : (job : Job) (old new : Seen) (fault : Fault) → Loads {A = job.Input} job.most job.gives old new (Err fault) → Answers job old new (Err fault)
-load_refused job old new fault h = record { right = tt; fault = inl h.fault; given = h.given; left = h.holds }
+load_refused job old new fault h = record { right = tt; fault = inl h.fault; given = h.given; left = h.holds; writes = h.writes }

@@ -22,7 +22,7 @@ use Rattle.acyclic_values.proofs.Contracting.{never_both}
 use Rattle.map_checks.specs.Firsts.{IsFirstOf}
 use Rattle.map_checks.specs.Faults.{together, AreNamed, Leaves, IsFirstOutside, IsHollowAt, HasNoSetFault}
 use Rattle.faults.specs.declared.fault.Fault.{Fault}
-use Rattle.faults.specs.declared.fault.Fault.TheVariants.{NoTool, NotAForm, CannotRead, BadText, NotComplex, Dimension, Limit, Undefined, LeavesRange, LeavesSubset, EmptyValue, NotAcyclic, NotInRange, NotInSubset, Killed, Missed, CannotWriteOut, OutOfMemory}
+use Rattle.faults.specs.declared.fault.Fault.TheVariants.{NoTool, NotAForm, CannotRead, BadText, NotComplex, Dimension, Limit, Undefined, LeavesRange, LeavesSubset, EmptyValue, NotAcyclic, NotInRange, NotInSubset, Killed, Missed, LawFails, CannotWriteOut, CannotWrite, OutOfMemory}
 use Rattle.faults.specs.Statuses.{status_of, without_chain}
 use Rattle.faults.specs.declared.status.Status.TheVariants as statuses
 use Rattle.pair_maps.specs.MapRefusals.{IsShownHole, IsFirstHollow, RefusesMap}
@@ -136,7 +136,9 @@ module _ (p : ℕ) (map : List Naming) (x a y b : List (List Factor)) where
   none_refuses ft none (NotInSubset cube) r = r
   none_refuses ft none (Killed degree chain) r = r
   none_refuses ft none (Missed degree chain) r = r
+  none_refuses ft none (LawFails name line law) r = r
   none_refuses ft none CannotWriteOut r = r
+  none_refuses ft none (CannotWrite name) r = r
   none_refuses ft none OutOfMemory r = r
 
   pub refusal_or_none : IsField p → length (cells_of range) < 2 ^ 32 → ((fault : Fault) × RefusesMap p map x a y b fault) ⊎ ((fault : Fault) → RefusesMap p map x a y b fault → ⊥)
@@ -215,7 +217,9 @@ module _ (p : ℕ) (map : List Naming) (x a y b : List (List Factor)) where
   view (NotInSubset cube) r = absurd r
   view (Killed degree chain) r = absurd r
   view (Missed degree chain) r = absurd r
+  view (LawFails name line law) r = absurd r
   view CannotWriteOut r = absurd r
+  view (CannotWrite name) r = absurd r
   view OutOfMemory r = absurd r
 
   leaving_same : (f g : Fault) → OfLeaving f → OfLeaving g → f ≡ g

@@ -5,7 +5,7 @@ use Rattle.std.specs.Str.{bytes_eq}
 use Rattle.std.proofs.lemmas.Slice.Eq.{bytes_eq-Decides}
 use Rattle.clap.specs.Walk.{Text, arg_by_id}
 use Rattle.command_line.specs.declared.choice.Choice.{Choice}
-use Rattle.command_line.specs.declared.choice.Choice.TheVariants.{Modulus, Cycles, Stats, Map, Matrix, Index, SetAlone}
+use Rattle.command_line.specs.declared.choice.Choice.TheVariants.{Modulus, Cycles, Stats, Map, Matrix, Index, Witness, SetAlone}
 use Rattle.command_line.specs.Operands.{named}
 use Rattle.command_line.specs.Forms.{option_name, same_choice}
 use Rattle.command_line.proofs.Orders.{same_self, same_is}
@@ -13,7 +13,7 @@ use Rattle.parsing.proofs.Rules.{by_id, option_built, rules_of}
 
 -- the option that has a name
 choice_of : Text → Option Choice
-choice_of name = named option_name (Modulus ∷ Cycles ∷ Stats ∷ Map ∷ Matrix ∷ Index ∷ SetAlone ∷ []) name
+choice_of name = named option_name (Modulus ∷ Cycles ∷ Stats ∷ Map ∷ Matrix ∷ Index ∷ Witness ∷ SetAlone ∷ []) name
 
 choice_of_name : (c : Choice) → choice_of (option_name c) ≡ Some c
 unfolding choice_of
@@ -23,6 +23,7 @@ choice_of_name Stats = refl
 choice_of_name Map = refl
 choice_of_name Matrix = refl
 choice_of_name Index = refl
+choice_of_name Witness = refl
 choice_of_name SetAlone = refl
 
 one_name : (d c : Choice) → option_name d ≡ option_name c → d ≡ c

@@ -8,7 +8,7 @@ use Rattle.clap.specs.Simple.{App, Shape, built, filled_from, is_buildable, is_r
 use Rattle.clap.specs.Faults.{is_free_app, is_simple_and_free}
 use Rattle.clap.specs.declared.builder.value_parser.ValueParser.TheVariants as parser
 use Rattle.command_line.specs.declared.choice.Choice.{Choice}
-use Rattle.command_line.specs.declared.choice.Choice.TheVariants.{Modulus, Cycles, Stats, Map, Matrix, Index, SetAlone}
+use Rattle.command_line.specs.declared.choice.Choice.TheVariants.{Modulus, Cycles, Stats, Map, Matrix, Index, Witness, SetAlone}
 use Rattle.command_line.specs.Operands.{named}
 use Rattle.command_line.specs.Forms.{Row, option_name, takes_value}
 use Rattle.parsing.specs.Syntax.{bare, operand_rule, valued_rule, flag_rule, option_rule, syntax}
@@ -151,6 +151,7 @@ long_same Stats name = or_false _ ∙ bytes_eq-swap (codes "stats") name
 long_same Map name = or_false _ ∙ bytes_eq-swap (codes "map") name
 long_same Matrix name = or_false _ ∙ bytes_eq-swap (codes "matrix") name
 long_same Index name = or_false _ ∙ bytes_eq-swap (codes "index") name
+long_same Witness name = or_false _ ∙ bytes_eq-swap (codes "witness") name
 long_same SetAlone name = or_false _ ∙ bytes_eq-swap (codes "set") name
 
 pub by_long : (options : List Choice) (name : Text) → arg_by_long (rules_of options) name ≡ option_map option_built (named option_name options (45 ∷ 45 ∷ name))
@@ -188,6 +189,7 @@ not_operand Stats = refl
 not_operand Map = refl
 not_operand Matrix = refl
 not_operand Index = refl
+not_operand Witness = refl
 not_operand SetAlone = refl
 
 pub is_operand_no : (c : Choice) → bytes_eq (option_name c) (codes "operands") ≡ false

@@ -8,7 +8,7 @@ use Rattle.std.proofs.lemmas.Bool.Decides.{Decides-eqb, Decides-ltb}
 use Rattle.clap.specs.Lexer.{has_byte, long_of, long_of_rest, name_and_value, short_of, short_of_rest, strip_byte}
 use Rattle.clap.specs.Walk.{Text}
 use Rattle.command_line.specs.declared.choice.Choice.{Choice}
-use Rattle.command_line.specs.declared.choice.Choice.TheVariants.{Modulus, Cycles, Stats, Map, Matrix, Index, SetAlone}
+use Rattle.command_line.specs.declared.choice.Choice.TheVariants.{Modulus, Cycles, Stats, Map, Matrix, Index, Witness, SetAlone}
 use Rattle.command_line.specs.Operands.{named}
 use Rattle.command_line.specs.Forms.{Row, Next, Anything, ValueOf, OperandsAlone, Nothing, Operand, Set, WordRead, option_name, option_named, takes_value, is_plain, is_empty, is_equals, alone}
 
@@ -100,6 +100,7 @@ second_of Stats = refl
 second_of Map = refl
 second_of Matrix = refl
 second_of Index = refl
+second_of Witness = refl
 second_of SetAlone = refl
 
 -- no option has a name without a dash in its second place

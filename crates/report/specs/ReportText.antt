@@ -8,6 +8,9 @@ use Rattle.report.specs.declared.index_part.IndexPart.{IndexPart}
 use Rattle.report.specs.declared.index_part.LerayRows.{LerayRows}
 use Rattle.report.specs.declared.reports.Report.{Report}
 use Rattle.report.specs.declared.reports.Report.TheVariants.{Pair, Map, Chain}
+use Rattle.report.specs.declared.reports.Report.TheVariants as reports
+use Rattle.report.specs.declared.accepted.Accepted.{Accepted}
+use Rattle.report.specs.declared.accepted.AcceptedMap.{AcceptedMap}
 use Rattle.report.specs.declared.reports.Shown.{Shown}
 
 -- the vector space of that dimension over the field of p elements: 0, Z_p or Z_p^d
@@ -153,6 +156,34 @@ map_text map shown =
     ++ codes "map\n" ++ map_lines_from shown 0 map.ranks map.matrices.items
     ++ wanted_text map.index shown
 
+-- ---- witness files that are accepted
+
+-- the lines on the groups of these dimensions in degree k and up
+abbrev pub dimension_lines : ℕ → ℕ → List ℕ → List ℕ
+dimension_lines p k [] = []
+dimension_lines p k (d ∷ ds) = group_line p k d ++ dimension_lines p (k + 1) ds
+
+-- the lines on the ranks of a map in degree k and up
+abbrev pub rank_lines : ℕ → List ℕ → List ℕ
+rank_lines k [] = []
+rank_lines k (rank ∷ ranks) = rank_line (codes "F") k rank ++ rank_lines (k + 1) ranks
+
+-- the lines on both pairs of a map, and on its ranks
+abbrev pub accepted_map_text : ℕ → List ℕ → AcceptedMap → List ℕ
+accepted_map_text p domain map =
+    codes "domain\n" ++ dimension_lines p 0 domain
+    ++ codes "range\n" ++ dimension_lines p 0 map.range
+    ++ codes "map\n" ++ rank_lines 0 map.ranks
+
+-- the lines on a pair, or on a map
+abbrev pub accepted_part : ℕ → List ℕ → Option AcceptedMap → List ℕ
+accepted_part p domain None = dimension_lines p 0 domain
+accepted_part p domain (Some map) = accepted_map_text p domain map
+
+abbrev pub accepted_text : Accepted → Shown → List ℕ
+accepted_text accepted shown =
+    codes "accepted\n" ++ accepted_part shown.modulus accepted.domain accepted.map
+
 -- ---- reports
 
 -- the text of a report
@@ -161,3 +192,4 @@ report_text (Pair pair) shown = pair_lines pair shown
 report_text (Map map) shown = map_text map shown
 report_text (Chain dimensions cycles) shown =
     group_lines number_text shown.modulus dimensions (shown_cycles shown cycles)
+report_text (reports.Accepted accepted) shown = accepted_text accepted shown

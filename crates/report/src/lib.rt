@@ -1,6 +1,8 @@
 //! What a run prints where nothing is refused, as values and as bytes.
 #![tactic(auto)]
 
+mod accepted;
+mod accepted_lines;
 mod cycles;
 mod dimensions;
 mod index_lines;
@@ -12,6 +14,7 @@ mod pair;
 mod reports;
 mod rows;
 
+pub use accepted::{Accepted, AcceptedMap};
 pub use cycles::Cycles;
 pub use dimensions::Dimensions;
 pub use index_part::{IndexPart, LerayRows};

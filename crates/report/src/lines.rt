@@ -59,7 +59,7 @@ fn put_degree<G: Generator>(
 }
 
 // Adds the line on one group.
-fn put_group_line(
+pub(crate) fn put_group_line(
     to: &mut Vec<u8>,
     modulus: u16,
     degree: usize,

@@ -66,7 +66,12 @@ pub(crate) fn put_map_degree(
 }
 
 // Adds the line on one rank.
-fn put_rank_line(to: &mut Vec<u8>, letter: &[u8], degree: usize, rank: u32) -> Result<(), NoMemory>
+pub(crate) fn put_rank_line(
+    to: &mut Vec<u8>,
+    letter: &[u8],
+    degree: usize,
+    rank: u32,
+) -> Result<(), NoMemory>
     ensures { OnOk result (to.new.items ≡ to.old.items ++ rank_line letter.now degree rank) }
 {
     let mut buffer = Buffer::new();

@@ -2,9 +2,10 @@
 ghost use Rattle.std.specs.Prelude.{◌≡◌, ◌++◌, IfOk, OnOk};
 ghost use Rattle.report.specs.ReportText.{report_text};
 
+use crate::accepted_lines::put_accepted;
 use crate::lines::{put_groups, put_pair};
 use crate::map_lines::put_map;
-use crate::{Cycles, Dimensions, MapReport, PairReport};
+use crate::{Accepted, Cycles, Dimensions, MapReport, PairReport};
 use std::alloc::{AllocError as NoMemory, Global};
 
 /// What a run prints where nothing is refused.
@@ -21,6 +22,8 @@ pub enum Report {
         dimensions: Dimensions,
         cycles: Cycles<u32>,
     },
+    /// On a witness file that is accepted.
+    Accepted(Accepted),
 }
 
 /// What of a report is printed, and how.
@@ -55,5 +58,6 @@ fn put_report(to: &mut Vec<u8>, report: &Report, shown: &Shown) -> Result<(), No
         Report::Chain { dimensions, cycles } => {
             put_groups(to, shown, dimensions.as_slice(), cycles)
         }
+        Report::Accepted(accepted) => put_accepted(to, shown, accepted),
     }
 }

@@ -7,12 +7,14 @@ const FILES: [(&str, &str); 14] = [
     // The projective plane.
     (
         "c",
-        "chain complex\nmax dimension 2\ndimension 0: 1\ndimension 1: 1\n# 1 = 0\ndimension 2: 1\n# 1 = 2 * 1\n",
+        "chain complex\nmax dimension 2\ndimension 0: 1\n\
+         dimension 1: 1\n# 1 = 0\ndimension 2: 1\n# 1 = 2 * 1\n",
     ),
     // Each boundary is the generator below.
     (
         "n",
-        "chain complex\nmax dimension 2\ndimension 0: 1\ndimension 1: 1\n# 1 = 1 * 1\ndimension 2: 1\n# 1 = 1 * 1\n",
+        "chain complex\nmax dimension 2\ndimension 0: 1\n\
+         dimension 1: 1\n# 1 = 1 * 1\ndimension 2: 1\n# 1 = 1 * 1\n",
     ),
     (
         "none",
@@ -31,7 +33,8 @@ const FILES: [(&str, &str); 14] = [
     ),
     (
         "seven",
-        "chain complex max dimension 2 dimension 0: 3 dimension 1: 2 # 2 = 3 * 3 dimension 2: 1 # 1 = 2 * 2",
+        "chain complex max dimension 2 dimension 0: 3 dimension 1: 2 # 2 = 3 * 3 \
+         dimension 2: 1 # 1 = 2 * 2",
     ),
     ("empty", ""),
     ("word", "chain complexes"),

@@ -19,3 +19,5 @@ mod memory_tests;
 mod rows;
 #[cfg(test)]
 mod set_tests;
+#[cfg(test)]
+mod witness_tests;

@@ -77,6 +77,18 @@ fn the_limit_of_cells_is_exact(rt: HostRuntime) -> Result<(), Fail> {
 }
 
 #[test]
+fn the_limit_of_cells_of_a_witness_is_exact(rt: HostRuntime) -> Result<(), Fail> {
+    let alloc = rt.alloc();
+    for (more, wanted) in [("[(-9)(-9)]", Status::Done), ("(-9)", Status::Limit)] {
+        let mut text = edges(alloc, 2047)?;
+        text.extend_from_slice(more.as_bytes())?;
+        let status = status_over(&rt, alloc, &["homcubes", "row", "--witness", "w"], "row", text)?;
+        assert_eq!(rt; status, wanted);
+    }
+    Ok(())
+}
+
+#[test]
 fn the_limit_of_coordinates_is_exact(rt: HostRuntime) -> Result<(), Fail> {
     let alloc = rt.alloc();
     for (text, wanted) in [

@@ -64,12 +64,14 @@ const ROWS: [Row; 9] = [
     // second piece alone.
     Row {
         words: &["chkmvmap", "split", "p", "three"],
-        err: "error: map: value at [(0)(0)] is not acyclic in degree 0: cycle 1 * [(0)(0)] + 1 * [(2)(2)], cocycle 1 * [(2)(2)] + 1 * [(3)(3)]\n",
+        err: "error: map: value at [(0)(0)] is not acyclic in degree 0: \
+              cycle 1 * [(0)(0)] + 1 * [(2)(2)], cocycle 1 * [(2)(2)] + 1 * [(3)(3)]\n",
         ..REFUSED
     },
     Row {
         words: &["chkmvmap", "split", "p", "three", "--mod", "3"],
-        err: "error: map: value at [(0)(0)] is not acyclic in degree 0: cycle 2 * [(0)(0)] + 1 * [(2)(2)], cocycle 1 * [(2)(2)] + 1 * [(3)(3)]\n",
+        err: "error: map: value at [(0)(0)] is not acyclic in degree 0: \
+              cycle 2 * [(0)(0)] + 1 * [(2)(2)], cocycle 1 * [(2)(2)] + 1 * [(3)(3)]\n",
         ..REFUSED
     },
     Row {
@@ -91,14 +93,16 @@ fn values_of_maps_are_tested(rt: HostRuntime) -> Result<(), Fail> {
     all_answer(&rt, rt.alloc(), &FILES, &ROWS)
 }
 
-// The map that doubles, from a line relative to its outer segments: the path through the middle goes
-// once through the middle of the range.
+// The map that doubles, from a line relative to its outer segments: the path through the middle
+// goes once through the middle of the range.
 const INDUCED: [Row; 5] = [
     Row {
         words: &[
             "homcubes", "--map", "double", "x", "a", "y", "b", "--matrix",
         ],
-        out: "domain\nH_0 = 0\nH_1 = Z_2\nz_1_1 = 1 * [(-1)(0)] + 1 * [(0)(1)]\nrange\nH_0 = 0\nH_1 = Z_2\nz_1_1 = 1 * [(-1)(0)] + 1 * [(0)(1)]\nmap\nF_0 rank 0\nF_1 rank 1\n  1\n",
+        out: "domain\nH_0 = 0\nH_1 = Z_2\nz_1_1 = 1 * [(-1)(0)] + 1 * [(0)(1)]\n\
+              range\nH_0 = 0\nH_1 = Z_2\nz_1_1 = 1 * [(-1)(0)] + 1 * [(0)(1)]\n\
+              map\nF_0 rank 0\nF_1 rank 1\n  1\n",
         ..DONE
     },
     Row {
@@ -138,7 +142,10 @@ const INDEXED: [Row; 7] = [
         words: &[
             "homcubes", "--map", "double", "x", "a", "y", "b", "--index", "--matrix",
         ],
-        out: "domain\nH_0 = 0\nH_1 = Z_2\nz_1_1 = 1 * [(-1)(0)] + 1 * [(0)(1)]\nrange\nH_0 = 0\nH_1 = Z_2\nz_1_1 = 1 * [(-1)(0)] + 1 * [(0)(1)]\nmap\nF_0 rank 0\nF_1 rank 1\n  1\nindex\nN_0 rank 0\nL_0 = 0\nN_1 rank 1\n  1\nL_1 = 1\n  1\n",
+        out: "domain\nH_0 = 0\nH_1 = Z_2\nz_1_1 = 1 * [(-1)(0)] + 1 * [(0)(1)]\n\
+              range\nH_0 = 0\nH_1 = Z_2\nz_1_1 = 1 * [(-1)(0)] + 1 * [(0)(1)]\n\
+              map\nF_0 rank 0\nF_1 rank 1\n  1\n\
+              index\nN_0 rank 0\nL_0 = 0\nN_1 rank 1\n  1\nL_1 = 1\n  1\n",
         ..DONE
     },
     Row {
@@ -152,7 +159,8 @@ const INDEXED: [Row; 7] = [
             "--map=double",
             "--mod=3",
         ],
-        out: "domain\nH_0 = 0\nH_1 = Z_3\nrange\nH_0 = 0\nH_1 = Z_3\nmap\nF_0 rank 0\nF_1 rank 1\nindex\nN_0 rank 0\nL_0 = 0\nN_1 rank 1\nL_1 = 1\n",
+        out: "domain\nH_0 = 0\nH_1 = Z_3\nrange\nH_0 = 0\nH_1 = Z_3\nmap\nF_0 rank 0\nF_1 rank 1\n\
+              index\nN_0 rank 0\nL_0 = 0\nN_1 rank 1\nL_1 = 1\n",
         ..DONE
     },
     Row {

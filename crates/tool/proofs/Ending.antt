@@ -4,13 +4,13 @@ use Rattle.outside.specs.Disk.{Disk}
 use Rattle.outside.specs.Seen.{Seen}
 use Rattle.outside.specs.Told.{Gains}
 use Rattle.faults.specs.declared.fault.Fault.{Fault}
-use Rattle.faults.specs.declared.fault.Fault.TheVariants.{NoTool, NotAForm, CannotRead, BadText, NotComplex, Dimension, Limit, Undefined, LeavesRange, LeavesSubset, EmptyValue, NotAcyclic, NotInRange, NotInSubset, Killed, Missed, CannotWriteOut, OutOfMemory}
+use Rattle.faults.specs.declared.fault.Fault.TheVariants.{NoTool, NotAForm, CannotRead, BadText, NotComplex, Dimension, Limit, Undefined, LeavesRange, LeavesSubset, EmptyValue, NotAcyclic, NotInRange, NotInSubset, Killed, Missed, LawFails, CannotWriteOut, CannotWrite, OutOfMemory}
 use Rattle.faults.specs.declared.status.Status.{Status}
 use Rattle.faults.specs.declared.status.Status.TheVariants as statuses
 use Rattle.faults.specs.Statuses.{status_of, without_chain}
 use Rattle.loading.specs.Readings.{reading, as_read}
 use Rattle.loading.specs.Loads.{IsCaused}
-use Rattle.loading.specs.Jobs.{Job, IsJudged, HasOneJudgement, IsRefusedWith, IsAnswer, RestsOn}
+use Rattle.loading.specs.Jobs.{Job, IsJudged, IsJudgedOnce, IsRefusedWith, RestsOn}
 use Rattle.tool.specs.Ends.{ReadFailed, EndsAs}
 
 status_without_chain : (fault : Fault) → status_of (without_chain fault) ≡ status_of fault
@@ -30,7 +30,9 @@ status_without_chain (Undefined cube) = refl
 status_without_chain (LeavesRange cube value) = refl
 status_without_chain (LeavesSubset cube value) = refl
 status_without_chain (EmptyValue cell) = refl
+status_without_chain (LawFails name line law) = refl
 status_without_chain CannotWriteOut = refl
+status_without_chain (CannotWrite name) = refl
 status_without_chain OutOfMemory = refl
 
 one_status : (f g : Fault) → without_chain f ≡ without_chain g → status_of f ≡ status_of g
@@ -48,7 +50,7 @@ by_memory : {A : Type 0} (r : Result A Fault) (read wrote : Type 0) → EndsAs r
 by_memory (Ok input) read wrote = inr (inr (inr refl))
 by_memory (Err fault) read wrote = inr (inr refl)
 
-module _ (job : Job) (once : HasOneJudgement job) (old new : Seen) where
+module _ (job : Job) (once : IsJudgedOnce job) (old new : Seen) where
   abbrev pub Failed : Type 0
   Failed = ReadFailed job.names old new
 
@@ -88,14 +90,16 @@ module _ (job : Job) (once : HasOneJudgement job) (old new : Seen) where
         by (inl e) = subst (λ (f : Fault). (disk : Disk) → old.holds ≡ Some disk → Exact (status_of f) disk) (sym e) (by_why fault (why fault r))
         by (inr e) = by_why said (for_memory e)
 
-    -- the status of a run that ended with its writing
-    pub delivery_ends : (text : List ℕ) (status : Status) → IsAnswer job old text → (status ≡ statuses.Done) ⊎ (status ≡ statuses.Write) → (status ≡ statuses.Write → wrote)
+    -- the status of a run that came to its writing
+    pub delivery_ends : (input : job.Input) (status : Status) → IsJudged job (reading old.holds) (Ok input)
+        → (status ≡ statuses.Done) ⊎ (status ≡ statuses.Write) ⊎ (status ≡ statuses.NoMemory) → (status ≡ statuses.Write → wrote)
         → IfSome old.holds (Exact status)
-    delivery_ends text status (input, judged_so, right) ends rose = each (Exact status) old.holds given
+    delivery_ends input status judged_so ends rose = each (Exact status) old.holds given
       where
-        ended : (other : job.Input) → (status ≡ statuses.Done) ⊎ (status ≡ statuses.Write) → EndsAs {A = job.Input} (Ok other) Failed wrote status
+        ended : (other : job.Input) → (status ≡ statuses.Done) ⊎ (status ≡ statuses.Write) ⊎ (status ≡ statuses.NoMemory) → EndsAs {A = job.Input} (Ok other) Failed wrote status
         ended other (inl e) = inl e
-        ended other (inr e) = inr (inr (inl (e, rose e)))
+        ended other (inr (inl e)) = inr (inr (inl (e, rose e)))
+        ended other (inr (inr e)) = inr (inr (inr e))
 
         given : (disk : Disk) → old.holds ≡ Some disk → Exact status disk
         given disk is (Ok other) k = ended other ends
@@ -116,8 +120,8 @@ module _ (job : Job) (once : HasOneJudgement job) (old new : Seen) where
       by (inl (inr (c, h))) = inl (is (only (as_read fault (reading old.holds)) (Err fault) (inl h)))
       by (inr (input, given, refused)) = inl (is (only (reading old.holds) (Err fault) (inr (input, given, refused))))
 
-  pub never_answered : (text : List ℕ) → IsAnswer job old text → (refusal : Fault) → IsRefusedWith job refusal → ⊥
-  never_answered text (input, judged_so, right) refusal only =
+  pub never_answered : (input : job.Input) → IsJudged job (reading old.holds) (Ok input) → (refusal : Fault) → IsRefusedWith job refusal → ⊥
+  never_answered input judged_so refusal only =
       let e : ◌≡◌ {A = Result job.Input Fault} (Ok input) (Err refusal) = only (reading old.holds) (Ok input) judged_so in cc
 
   -- ---- what the fault that is said rests on
@@ -143,7 +147,9 @@ module _ (job : Job) (once : HasOneJudgement job) (old new : Seen) where
   caused_so (NotInSubset cube) c e = c
   caused_so (Killed degree chain) c e = c
   caused_so (Missed degree chain) c e = c
+  caused_so (LawFails name line law) c e = cc
   caused_so CannotWriteOut c e = c
+  caused_so (CannotWrite name) c e = c
   caused_so OutOfMemory c e = c
 
   -- a fault that comes up before the writing is not that of a failed write

@@ -1,0 +1,2 @@
+-- What stands after a run that came to its writing.
+pub mod Delivery
