@@ -1,5 +1,5 @@
 -- From what the two passes answer to what is shown, and to the first fault.
-use Rattle.std.proofs.Common.{◌≡◌, ◌⊎◌, inl, inr, ℕ, zero, suc, ◌+◌, ◌<◌, ◌≤◌, refl, sym, ap, ◌∙◌, arith, List, [], ◌∷◌, length, map, get_or, Bool, true, false}
+use Rattle.std.proofs.Common.{◌≡◌, ℕ, zero, suc, ◌<◌, ◌≤◌, refl, sym, ap, ◌∙◌, arith, List, length, map, get_or, Bool, true, false}
 use Rattle.std.proofs.lemmas.Bool.{false≢true}
 use Rattle.std.proofs.lemmas.List.{length-map}
 use Rattle.field_mod.specs.Moduli.{IsModulus}
@@ -15,9 +15,9 @@ use Rattle.witness_laws.proofs.Showing.{tables_show_bases, tables_show_maps}
 use Rattle.witness_types.specs.declared.input.Input.{Input}
 use Rattle.witness_types.specs.declared.input.Input.TheVariants as inputs
 use Rattle.witness_types.specs.declared.part.Claim.{Claim}
-use Rattle.witness_types.specs.Headers.{IsHeader, body_of}
+use Rattle.witness_types.specs.Headers.{body_of}
 use Rattle.witness_types.specs.Inputs.{given_of, IsWitnessInput}
-use Rattle.witness_types.specs.Answers.{IsHeaded, IsFault, IsClaimWith, ShowsTables}
+use Rattle.witness_types.specs.Answers.{IsFault, IsClaimWith, ShowsTables}
 use Rattle.witness_reading.specs.Reading.{IsReadFault}
 use Rattle.witness_replay.specs.Testing.{FailsAt, IsTestFault}
 
