@@ -8,14 +8,17 @@ use Rattle.std.specs.List.{list_any}
 use Rattle.std.specs.Str.{bytes_eq}
 use Rattle.field_mod.specs.Moduli.{IsModulus, moduli}
 use Rattle.faults.specs.declared.fault.Fault.{Fault}
-use Rattle.faults.specs.declared.fault.Fault.TheVariants.{LawFails}
+use Rattle.faults.specs.declared.fault.Fault.TheVariants.{LawFails, OutOfMemory}
 use Rattle.faults.specs.declared.law.Law.TheVariants as told
+use Rattle.witness_laws.specs.declared.law.Law.{Law as WitnessLaw}
+use Rattle.witness_laws.specs.declared.law.WitnessFault.{WitnessFault}
+use Rattle.witness_laws.specs.declared.law.WitnessFault.TheVariants.{At}
 use Rattle.witness_laws.specs.Lines.{numeral, lines_of}
 use Rattle.witness_laws.proofs.Telling.{lines_tell_their_parts}
 use Rattle.witness_types.specs.declared.heading.ClaimKind.{ClaimKind}
 use Rattle.witness_types.specs.declared.heading.ClaimKind.TheVariants.{Pair, Map}
 use Rattle.witness_types.specs.declared.heading.Header.{Header}
-use Rattle.witness_types.specs.Headers.{version_line, modulus_line, kind_line, header_lines, MayHead, IsHeaderOf, IsHeader, IsFirstHeading}
+use Rattle.witness_types.specs.Headers.{version_line, modulus_line, kind_line, header_lines, MayHead, IsHeaderOf, IsHeader, IsHeaderFault, IsFirstHeading}
 use Rattle.loading.specs.Steps.{IsOne}
 use Rattle.loading.proofs.OfFiles.{IsPlain, IsMade}
 use Rattle.replay_tool.specs.Inputs.{Headed, header_of, IsBadHead, IsOtherClaim, IsHeadOf}
@@ -241,3 +244,17 @@ module _ (name : List ℕ) (kind : ClaimKind) (bytes : List ℕ) where
 
   pub head_made : IsMade (IsHeadOf name kind bytes)
   head_made = record { one = record { outcome = some.0; holds = some.1; one = one }; plain = head_plain }
+
+  -- a line of the header that may not stand there is told, or memory ran out
+  pub bad_head : (found : WitnessFault) (line : ℕ) (law : WitnessLaw) (fault : Fault) → found ≡ At line law → IsHeaderFault bytes found
+      → (fault ≡ LawFails name line told.Header) ⊎ (fault ≡ OutOfMemory) → IsHeadOf name kind bytes (Err fault) ⊎ (fault ≡ OutOfMemory)
+  bad_head found line law fault e f (inr m) = inr m
+  bad_head found line law fault e f (inl is) =
+      let h : IsHeaderFault bytes (At line law) = subst (IsHeaderFault bytes) e f in
+      inl (inl (record { line = line; fails = (h.0, h.1, refl, h.3); is = is }))
+
+  -- so is another claim
+  pub other_head : (h : Header) (fault : Fault) → IsHeader bytes h → h.kind ≢ kind → (fault ≡ LawFails name 3 told.Header) ⊎ (fault ≡ OutOfMemory)
+      → IsHeadOf name kind bytes (Err fault) ⊎ (fault ≡ OutOfMemory)
+  other_head h fault is other (inr m) = inr m
+  other_head h fault is other (inl e) = inl (inr (record { header = h; heads = is; other = other; is = e }))

@@ -8,7 +8,9 @@ use Rattle.acyclic_values.specs.Values.{in_value, IsValueAt}
 use Rattle.acyclic_values.proofs.Values.{values_are_one}
 use Rattle.map_checks.specs.Faults.{together, AreNamed}
 use Rattle.pair_maps.specs.declared.inputs.PairMap.{PairMap}
+use Rattle.elem_cubes.specs.Laws.{cell_at}
 use Rattle.witness_laws.specs.Inputs.{Given, all_cells, value_cells}
+use Rattle.witness_laws.specs.Parts.{value_at}
 use Rattle.witness_laws.proofs.Mapping.{is_value}
 use Rattle.replay_tool.specs.declared.inputs.Subject.TheVariants as subjects
 use Rattle.replay_tool.specs.Inputs.{target_of_map, given_of}
@@ -52,3 +54,18 @@ module _ (m : PairMap) (few : HasFew (given_of (subjects.Map m))) (sound : IsSou
 
   pub named_in : (domain : List (List Factor)) → domain ≡ D → AreNamed m.map.named domain
   named_in domain e = subst (AreNamed m.map.named) (sym e) sound.named
+
+  -- one more square
+  pub squares_more : (cells : List (List Factor)) (i size n new : ℕ) (s : List Factor) → cells ≡ all_cells m.x.cells m.a.cells → s ≡ cell_at cells i
+      → size ≡ total i (λ j. square (length (value_at G j))) → size ≤ i * 16777216 → n ≡ square (length (value s)) → n ≤ 16777216 → new ≡ size + n
+      → (new ≡ total (i + 1) (λ j. square (length (value_at G j)))) × (new ≤ (i + 1) * 16777216)
+  squares_more cells i size n new s e at h l is small made =
+      let more : i + 1 ≡ suc i = omega arith in
+      let here : s ≡ cell_at (all_cells m.x.cells m.a.cells) i = at ∙ ap (λ (l : List (List Factor)). cell_at l i) e in
+      let square_here : n ≡ square (length (value_at G i)) = is ∙ ap (λ (q : List Factor). square (length (value q))) here in
+      let sum = total_more i (λ j. square (length (value_at G j))) in
+      (
+        made ∙ ap (λ (a : ℕ). a + n) h ∙ ap (λ (b : ℕ). total i (λ j. square (length (value_at G j))) + b) square_here
+        ∙ sym sum ∙ ap (λ (k : ℕ). total k (λ j. square (length (value_at G j)))) (sym more),
+        omega (arith, made, l, small),
+      )
