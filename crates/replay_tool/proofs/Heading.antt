@@ -54,7 +54,7 @@ one_modulus : (p q : ℕ) → modulus_line p ≡ modulus_line q → p ≡ q
 one_modulus p q e = ap (λ ns. get_or ns 0 0) (lines_tell_their_parts.numbers (codes "mod") (p ∷ []) (q ∷ []) (as_numbers p ∙ e ∙ sym (as_numbers q)))
 
 -- the modulus of the line, among these
-NamesOne : List ℕ → List ℕ → Type 0
+abbrev NamesOne : List ℕ → List ℕ → Type 0
 NamesOne ps t = (p : ℕ) × (list_any (λ q. eqb q p) ps ≡ true) × (t ≡ modulus_line p)
 
 or_first : (a b : Bool) → a ≡ true → (a || b) ≡ true
@@ -83,7 +83,7 @@ module _ (ts : List (List ℕ)) where
   abbrev line : ℕ → List ℕ
   line k = get_or ts k []
 
-  May : ℕ → Type 0
+  abbrev May : ℕ → Type 0
   May k = MayHead k (line k)
 
   version_or_not : May 0 ⊎ (May 0 → ⊥)
@@ -229,7 +229,7 @@ module _ (name : List ℕ) (kind : ClaimKind) (bytes : List ℕ) where
   one_fault b c (inr h) (inl k) = absurd (headed_not_refused ls h.header h.heads k.fails.0 k.fails.3)
   one_fault b c (inr h) (inr k) = h.is ∙ sym k.is
 
-  made_of : List ℕ → ℕ → Headed
+  abbrev made_of : List ℕ → ℕ → Headed
   made_of b p = record { bytes = b; modulus = p }
 
   one : (o r : Result Headed Fault) → IsHeadOf name kind bytes o → IsHeadOf name kind bytes r → o ≡ r

@@ -81,7 +81,7 @@ module _ (subject : Subject) where
 -- ---- the laws
 
 module _ (name bytes : List ℕ) (p : ℕ) (G : Given) where
-  told_as : ℕ → WitnessLaw → Fault
+  abbrev told_as : ℕ → WitnessLaw → Fault
   told_as line law = LawFails name line (told_law law)
 
   one_law : (f g : Fault) → FailsBy name p G bytes f → FailsBy name p G bytes g → f ≡ g

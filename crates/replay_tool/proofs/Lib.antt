@@ -7,5 +7,5 @@ pub mod Measuring
 pub mod Growing
 pub mod Sets
 pub mod Judged
-pub mod Accepting
+pub mod Testing
 pub mod Limiting

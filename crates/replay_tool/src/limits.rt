@@ -66,7 +66,7 @@ fn test_cells(alloc: Global, x: &CubeSet, a: &CubeSet) -> Result<(), Fault>
         Ok(_) => Ok(()),
         Err(SetFault::TooMany) => Err(Fault::Limit {
             count: LimitName::WitnessCells,
-            number: u64::from(WITNESS_CELLS),
+            number: WITNESS_CELLS as u64,
         }),
         Err(SetFault::Coordinates) => unreachable!(),
         Err(SetFault::NoMemory) => Err(Fault::OutOfMemory),
