@@ -19,7 +19,7 @@ use Rattle.witness_types.specs.Headers.{body_of}
 use Rattle.witness_types.specs.Inputs.{given_of, IsWitnessInput}
 use Rattle.witness_types.specs.Answers.{IsFault, IsClaimWith, ShowsTables}
 use Rattle.witness_reading.specs.Reading.{IsReadFault}
-use Rattle.witness_replay.specs.Testing.{FailsAt, IsTestFault}
+use Rattle.witness_testing.specs.Testing.{FailsAt, IsTestFault}
 
 -- a header has a modulus of at least 1
 pub at_least_one : (p : ℕ) → IsModulus p → 1 ≤ p

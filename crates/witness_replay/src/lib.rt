@@ -2,6 +2,5 @@
 #![tactic(auto)]
 
 mod replaying;
-mod stubs;
 
 pub use replaying::replay;

@@ -5,8 +5,9 @@ ghost use Rattle.witness_types.specs.Inputs.{given_of, IsWitnessInput, IsWithinT
 ghost use Rattle.witness_types.specs.Answers.{IsHeaded, IsFault, ShowsTables};
 
 use field_mod::Field;
-use crate::stubs::{read_witness, test_laws};
+use map_reading::read_witness;
 use std::alloc::Global;
+use witness_testing::test_laws;
 use witness_types::{Claim, Input, WitnessFault};
 
 /// What a witness of version 1 claims, where it meets the laws; then its cycles are bases, and for
