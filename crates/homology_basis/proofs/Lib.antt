@@ -9,3 +9,4 @@ pub mod Whole
 pub mod Unique
 pub mod Remaining
 pub mod Together
+pub mod Flags

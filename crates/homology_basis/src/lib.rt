@@ -7,7 +7,9 @@ mod class;
 mod classes;
 mod cycles;
 mod making;
+mod marks;
 mod prepared;
+mod swept;
 
 pub use bases::Basis;
 pub use cycles::CycleBasis;

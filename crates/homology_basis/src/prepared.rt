@@ -1,27 +1,24 @@
 //! The relative complex of a pair: excised, grown, collapsed and reduced.
-ghost use Rattle.std.specs.Prelude.{◌≡◌, ◌<◌, ◌≤◌, ◌++◌, List, length, IfOk, OnOk, Err};
+ghost use Rattle.std.specs.Prelude.{◌≡◌, ◌<◌, ◌≤◌, ◌++◌, IfOk, OnOk, Err};
 ghost use Rattle.std.specs.List.Sorted.{IsStrictlySortedBy};
-ghost use Rattle.elem_cubes.specs.Cells.{Factor};
 ghost use Rattle.elem_cubes.specs.Order.{cell_cmp};
 ghost use Rattle.cube_sets.specs.Sorted.{has};
-ghost use Rattle.algebraic_reduction.specs.Reduction.{Step};
 ghost use Rattle.algebraic_reduction.specs.Laws.{NothingLeft};
 ghost use Rattle.cell_complex.specs.RelativeComplex.{is_relative};
 ghost use Rattle.cell_complex.specs.CellCount.{cell_count};
-ghost use Rattle.cell_complex.specs.Numbering.{IsComplexOf, IsRelativeComplex};
+ghost use Rattle.cell_complex.specs.Numbering.{IsRelativeComplex};
 ghost use Rattle.cell_complex.specs.Growth.{IsFinishedGrowth};
 ghost use Rattle.cell_complex.specs.FreePairs.{CollapsesTo, HasNoFreePair};
 ghost use Rattle.excision.specs.Excision.{excised};
-ghost use Rattle.excision.specs.Left.{is_left};
-ghost use Rattle.homology_basis.specs.Marks.{TellLeft};
 
+use crate::marks::{left_cells, left_marks};
+use crate::swept::collapse_all;
 use algebraic_reduction::Log;
 use cell_complex::{CELLS, CellList, CellsFault, Numbered, complex_of, relative};
 use cube_sets::CubeSet;
 use excision::{Grown, excise, grow};
-use face_reduction::collapse;
 use field_mod::Field;
-use std::alloc::{AllocError, Global};
+use std::alloc::Global;
 
 /// The relative cells of a pair, the cubes of a growth, the cells that a collapse leaves, and a log
 /// of the complex of the cells in which no boundary is left.
@@ -64,7 +61,7 @@ pub fn prepare<const P: u16>(
     let complex = complex_of(alloc, field, &cells)?;
     let log = Log::start(alloc, complex)?;
     let Grown { log, cubes } = grow(alloc, field, log, &cells, x, &near)?;
-    let log = collapse(alloc, field, log, &cells)?;
+    let log = collapse_all(alloc, field, log, &cells)?;
     let marks = left_marks(alloc, &log, &cells)?;
     let log = log.reduce_all(field)?;
     let left = left_cells(alloc, &marks, &cells)?;
@@ -74,41 +71,4 @@ pub fn prepare<const P: u16>(
         left,
         log,
     })
-}
-
-// Which of the cells a log leaves, by their numbers. While more is reduced that takes less memory
-// than the cells.
-fn left_marks<const P: u16>(
-    alloc: Global,
-    log: &Log<P>,
-    cells: &Numbered,
-) -> Result<Vec<bool>, AllocError>
-    requires { IsComplexOf P cells.now log.now.complex }
-    ensures count { IfOk result (λ m. length m.items ≡ length cells.now) }
-    ensures marks { IfOk result (λ m. TellLeft (length cells.now) log.now.steps m.items) }
-{
-    let mut marks = Vec::with_capacity(alloc, cells.len() as usize)?;
-    for number in 0..cells.len() {
-        marks.push(log.alive(number))?;
-    }
-    Ok(marks)
-}
-
-// The cells that are marked as left, in order.
-fn left_cells(alloc: Global, marks: &[bool], cells: &Numbered) -> Result<CellList, AllocError>
-    requires { length marks.now ≡ length cells.now }
-    ensures left { IfOk result (λ l. (ss : List Step) → TellLeft (length cells.now) ss marks.now
-        → (c : List Factor) → has cell_cmp l c ≡ is_left cells.now ss c) }
-    ensures sorted { IfOk result (λ l. (ss : List Step) → TellLeft (length cells.now) ss marks.now
-        → IsStrictlySortedBy cell_cmp l) }
-{
-    let mut left = CellList::new(alloc);
-    let mut near = 0;
-    for number in 0..cells.len() {
-        if !marks[number as usize] {
-            continue;
-        }
-        left.push(cells.cell_near(number, &mut near))?;
-    }
-    Ok(left)
 }

@@ -4,8 +4,8 @@ use Rattle.face_reduction.proofs.Taking.{complex_kept}
 use Rattle.homology_basis.proofs.Together.{whole_listing, whole_growth, growth_then, left_collapses, left_none}
 use Rattle.homology_basis.proofs.prepared.prepare.Goals as goal
 
-pub collapse-requires : goal.collapse-requires
-collapse-requires g c =
+pub collapse_all-requires : goal.collapse_all-requires
+collapse_all-requires g c =
     let w = c.in_ok-log-2 in (
       omega arith,
       (
