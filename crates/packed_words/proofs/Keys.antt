@@ -8,7 +8,8 @@ use Rattle.std.specs.Ordering.{is_eq}
 use Rattle.std.specs.Cmp.{tied_itself}
 use Rattle.std.proofs.lemmas.Bool.{true≢false, and_from, cases_lt, cases_eq}
 use Rattle.std.proofs.lemmas.Bool.Decides.{nat_tests}
-use Rattle.std.proofs.lemmas.List.{get_or-set_other, get_or-set_same, get_or_past, length-map, map-append, take_more, take_all}
+use Rattle.std.proofs.lemmas.List.{get_or-set_other, get_or-set_same, get_or_past, length-map, map-append, take_more, take_all, length-append}
+use Rattle.std.proofs.lemmas.List.Folds.{list_any_at}
 use Rattle.std.proofs.lemmas.List.Sums.{passes_at_first, fails_before_first}
 use Rattle.elem_cubes.specs.Cells.{Factor, is_file_factor, same_cell, low, lower_of, axes_of, cell_of}
 use Rattle.elem_cubes.specs.OrderLemmas.{cell_refl, cell_cases}
@@ -61,32 +62,88 @@ same_default [] i d e h = absurd (omega arith)
 same_default (x ∷ xs) zero d e h = refl
 same_default (x ∷ xs) (suc i) d e h = same_default xs i d e (omega arith)
 
+has_more : (keys : List Key) (k x : Key) → has key_cmp (keys ++ k ∷ []) x ≡ (has key_cmp keys x || is_eq (key_cmp k x))
+has_more [] k x = or_false (is_eq (key_cmp k x))
+  where
+    or_false : (b : Bool) → (b || false) ≡ b
+    or_false true = refl
+    or_false false = refl
+has_more (y ∷ keys) k x =
+    ap (λ b. is_eq (key_cmp y x) || b) (has_more keys k x)
+    ∙ or_assoc (is_eq (key_cmp y x)) (has key_cmp keys x) (is_eq (key_cmp k x))
+  where
+    or_assoc : (a b c : Bool) → (a || (b || c)) ≡ ((a || b) || c)
+    or_assoc true b c = refl
+    or_assoc false b c = refl
+
+has_again : (keys : List Key) (k x : Key) → has key_cmp keys k ≡ true → (has key_cmp keys x || is_eq (key_cmp k x)) ≡ has key_cmp keys x
+has_again keys k x h = elim (is_eq (key_cmp k x)) as (λ b. is_eq (key_cmp k x) ≡ b → (has key_cmp keys x || b) ≡ has key_cmp keys x) [
+  | true ↦ λ e.
+      let there : has key_cmp keys x ≡ true = ap (has key_cmp keys) (sym (key_same k x ((Equal-is (key_cmp k x)).0 e))) ∙ h in
+      ap (λ b. b || true) there ∙ sym there
+  | false ↦ λ e. or_false (has key_cmp keys x)
+] refl
+  where
+    or_false : (b : Bool) → (b || false) ≡ b
+    or_false true = refl
+    or_false false = refl
+
+-- the last key is in the list
+pub last_has : (keys : List Key) (k : Key) (i : ℕ) → i < length keys → is_eq (key_cmp (get_or keys i no_key) k) ≡ true → has key_cmp keys k ≡ true
+last_has keys k i l t = list_any_at (λ x. is_eq (key_cmp x k)) keys i no_key l t
+
 -- so many of the cells have their keys in the list
 pub record AreKeysTo (cells : List (List Factor)) (keys : List Key) (n : ℕ) : Type 0 where
-  pub items : keys ≡ map key_of (take n cells)
+  pub members : (x : Key) → has key_cmp keys x ≡ has key_cmp (map key_of (take n cells)) x
+  pub few : length keys ≤ n
   pub fit : (j : ℕ) → j < n → IsKey (key_of (cell_at cells j))
+
+one_more : (cells : List (List Factor)) (n : ℕ) (k x : Key) → n < length cells → k ≡ key_of (cell_at cells n)
+    → has key_cmp (map key_of (take (n + 1) cells)) x ≡ (has key_cmp (map key_of (take n cells)) x || is_eq (key_cmp k x))
+one_more cells n k x l ek =
+    ap (λ (ks : List Key). has key_cmp ks x) (ap (map key_of) (take_more cells n [] l) ∙ map-append key_of (take n cells) (cell_at cells n ∷ []))
+    ∙ has_more (map key_of (take n cells)) (key_of (cell_at cells n)) x
+    ∙ ap (λ y. has key_cmp (map key_of (take n cells)) x || is_eq (key_cmp y x)) (sym ek)
+
+fit_more : (cells : List (List Factor)) (n : ℕ) (k : Key) → k ≡ key_of (cell_at cells n) → IsKey k
+    → ((j : ℕ) → j < n → IsKey (key_of (cell_at cells j))) → (j : ℕ) → j < n + 1 → IsKey (key_of (cell_at cells j))
+fit_more cells n k ek fits before j lt = ⊎_elim
+    (λ b. before j b)
+    (λ ge. let e : j ≡ n = omega arith in subst IsKey (ek ∙ ap (λ i. key_of (cell_at cells i)) (sym e)) fits)
+    (cases_lt j n)
+
+pub keys_skip : (cells : List (List Factor)) (keys : List Key) (n : ℕ) (c : List Factor) (k : Key) → n < length cells → c ≡ cell_at cells n
+    → k ≡ key_of c → has key_cmp keys k ≡ true → IsKey (key_of c) → AreKeysTo cells keys n → AreKeysTo cells keys (n + 1)
+keys_skip cells keys n c k l is ek there fits r =
+    let at : k ≡ key_of (cell_at cells n) = ek ∙ ap key_of is in
+    record {
+      members = λ x. sym (has_again keys k x there) ∙ ap (λ b. b || is_eq (key_cmp k x)) (r.members x) ∙ sym (one_more cells n k x l at);
+      few = let f = r.few in omega arith;
+      fit = fit_more cells n k at (subst IsKey (sym ek) fits) r.fit;
+    }
 
 pub keys_next : (cells : List (List Factor)) (keys new : List Key) (n : ℕ) (c : List Factor) (k : Key) → n < length cells → c ≡ cell_at cells n → k ≡ key_of c → new ≡ keys ++ k ∷ [] → IsKey (key_of c) → AreKeysTo cells keys n → AreKeysTo cells new (n + 1)
 keys_next cells keys new n c k l is ek en fits r =
-    let at : cell_at cells n ≡ c = sym is in
+    let at : k ≡ key_of (cell_at cells n) = ek ∙ ap key_of is in
     record {
-      items = en ∙ (λ j. r.items j ++ ek j ∷ []) ∙ (λ j. map key_of (take n cells) ++ key_of (sym at j) ∷ []) ∙ sym (ap (map key_of) (take_more cells n [] l) ∙ map-append key_of (take n cells) (cell_at cells n ∷ []));
-      fit = λ j lt. ⊎_elim (λ b. r.fit j b) (λ ge. let e : j ≡ n = omega arith in subst (λ (q : List Factor). IsKey (key_of q)) (sym (ap (cell_at cells) e ∙ at)) fits) (cases_lt j n);
+      members = λ x. ap (λ (ks : List Key). has key_cmp ks x) en ∙ has_more keys k x ∙ ap (λ b. b || is_eq (key_cmp k x)) (r.members x) ∙ sym (one_more cells n k x l at);
+      few = let f = r.few in omega (arith, ap length en ∙ length-append keys (k ∷ []));
+      fit = fit_more cells n k at (subst IsKey (sym ek) fits) r.fit;
     }
 
 module _ (cells : List (List Factor)) (keys sorted : List Key) (n : ℕ) (r : AreKeysTo cells keys n) (l : length cells ≤ n) (same : (k : Key) → has key_cmp sorted k ≡ has key_cmp keys k) where
-  all_items : keys ≡ map key_of cells
-  all_items = r.items ∙ ap (map key_of) (take_all n cells l)
+  all_members : (x : Key) → has key_cmp sorted x ≡ has key_cmp (map key_of cells) x
+  all_members x = same x ∙ r.members x ∙ ap (λ (cs : List (List Factor)). has key_cmp (map key_of cs) x) (take_all n cells l)
 
   pub keys_end : AreKeysOf cells sorted
   keys_end k = (
     (λ h.
-        let i = has_in keys k (sym (same k) ∙ in_has sorted k (In-from sorted k h)) in
-        let w = from-In (map key_of cells) k (subst (λ (ks : List Key). In ks k) all_items i) in
+        let i = has_in (map key_of cells) k (sym (all_members k) ∙ in_has sorted k (In-from sorted k h)) in
+        let w = from-In (map key_of cells) k i in
         to_cell cells k w),
     (λ h.
         let i : In (map key_of cells) k = from_cell cells k h.0 h.1 h.2 in
-        from-In sorted k (has_in sorted k (same k ∙ in_has keys k (subst (λ (ks : List Key). In ks k) (sym all_items) i)))),
+        from-In sorted k (has_in sorted k (all_members k ∙ in_has (map key_of cells) k i))),
   )
     where
       to_cell : (qs : List (List Factor)) (k : Key) → Contains (map key_of qs) k → (i : ℕ) × (i < length qs) × (key_of (cell_at qs i) ≡ k)

@@ -1,19 +1,19 @@
 -- Four bits of a word, and the place of a key.
-use Rattle.std.proofs.Common.{◌≡◌, ◌≢◌, ℕ, zero, suc, ◌+◌, ◌*◌, ◌/◌, ◌^◌, ◌<◌, ◌≤◌, refl, sym, ap, ◌∙◌, arith, ⊎_elim, List, [], ◌∷◌, length, get_or, slice_set, false, cond}
+use Rattle.std.proofs.Common.{◌≡◌, ◌≢◌, ℕ, zero, suc, ◌+◌, ◌*◌, ◌/◌, ◌^◌, ◌<◌, ◌≤◌, refl, sym, ap, ◌∙◌, arith, ⊎_elim, List, length, get_or}
 use Rattle.std.specs.Cmp.{Equal-is}
 use Rattle.std.specs.Ordering.{is_eq, ordering_then, nat_cmp}
 use Rattle.std.specs.declared.cmp.Ordering.{Ordering}
 use Rattle.std.specs.declared.cmp.Ordering.TheVariants.{Less, Equal, Greater}
-use Rattle.std.proofs.lemmas.Bool.{true≢false, cases_eq, cases_lt, eqb-true}
-use Rattle.std.proofs.lemmas.List.{get_or-set_other, get_or-set_same, get_or_past}
+use Rattle.std.proofs.lemmas.Bool.{true≢false, cases_lt, eqb-true}
+use Rattle.std.proofs.lemmas.List.{get_or_past}
 use Rattle.std.proofs.lemmas.List.Sums.{passes_at_first}
 use Rattle.std.specs.Cmp.{unsigned_tied}
 use Rattle.std.proofs.Math.Nat.{pow-succ'}
 use Rattle.elem_cubes.specs.Corners.{corner_cmp}
-use Rattle.elem_cubes.specs.Cells.{Factor, point, interval, dimension_of, same_cell, lower_of, axes_of, cell_of}
-use Rattle.elem_cubes.specs.OrderLemmas.{cell_refl, cell_cases, tied_lists}
+use Rattle.elem_cubes.specs.Cells.{Factor, lower_of, axes_of, cell_of}
+use Rattle.elem_cubes.specs.OrderLemmas.{tied_lists}
 use Rattle.elem_cubes.proofs.Bits.{parts_of_cell}
-use Rattle.packed_words.specs.Words.{Key, PackedWords, AreWords, IsWordOf, key_cmp, key_of, slot_of, place_of, no_key, key_at, word_at, nibble, state_of}
+use Rattle.packed_words.specs.Words.{Key, PackedWords, key_cmp, key_of, slot_of, place_of, no_key, nibble, state_of}
 
 -- ---- four bits of a word
 

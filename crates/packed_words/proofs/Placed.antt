@@ -1,24 +1,24 @@
 -- Where a key stands, and what its word says of a cell
-use Rattle.std.proofs.Common.{◌≡◌, ℕ, zero, suc, ◌+◌, ◌-◌, ◌/◌, ◌%◌, ◌^◌, ◌<◌, ◌≤◌, refl, sym, ap, ◌∙◌, arith, ⊎_elim, List, [], ◌∷◌, length, get_or, drop, true, false, ◌&&◌, subst, Result, Err, is_ok}
+use Rattle.std.proofs.Common.{◌≡◌, ℕ, zero, suc, ◌+◌, ◌*◌, ◌/◌, ◌%◌, ◌^◌, ◌-◌, ◌<◌, ◌≤◌, refl, sym, ap, ◌∙◌, arith, ⊎_elim, List, [], ◌∷◌, length, get_or, true, false, ◌&&◌, Result, Err, is_ok}
 use Rattle.std.specs.Prelude.{nat_le, nat_lt, ℤ, pos, ◌+ℤ◌, Bool}
 use Rattle.std.proofs.lemmas.Int.{ints}
 use Rattle.std.specs.List.{list_all}
 use Rattle.std.specs.List.Sorted.{IsStrictlySortedBy, IsBinarySearchResult, IsSearchInRange}
-use Rattle.std.specs.Cmp.{IsTotalOrder}
-use Rattle.std.specs.Ordering.{is_eq}
-use Rattle.std.specs.declared.cmp.Ordering.TheVariants.{Equal}
-use Rattle.std.proofs.lemmas.Bool.{true≢false, and_from, and_parts, cases_Bool}
+use Rattle.std.specs.Cmp.{IsTotalOrder, Equal-is, tied_itself}
+use Rattle.std.specs.Ordering.{is_eq, ordering_reverse}
+use Rattle.std.specs.declared.cmp.Ordering.TheVariants.{Less, Equal, Greater}
+use Rattle.std.proofs.lemmas.Bool.{true≢false, and_from, and_parts, cases_Bool, cases_eq, cases_lt}
 use Rattle.std.proofs.lemmas.Bool.Decides.{nat_tests}
 use Rattle.std.proofs.lemmas.Cmp.{int_cmp_total, nat_cmp_total, lists_total, then_total, on_total}
-use Rattle.std.proofs.lemmas.List.{length-map, get_or_past}
+use Rattle.std.proofs.lemmas.List.{length-map, get_or_past, get_or_default}
 use Rattle.std.proofs.lemmas.List.Folds.{list_any_at}
 use Rattle.std.proofs.lemmas.List.Sums.{position_or_len_is}
 use Rattle.std.proofs.Math.Nat.{pow-succ'}
+use Rattle.std.proofs.lemmas.Nat.{shr-shr}
 use Rattle.std.proofs.lemmas.Map.Keys.{Less-from_sorted}
 use Rattle.elem_cubes.specs.declared.range.TheConstants.{MAX_EMBEDDING}
-use Rattle.elem_cubes.specs.Cells.{Factor, point, interval, low, is_wide, is_factor, is_file_factor, is_cell, lower_of, axes_of, cell_of}
+use Rattle.elem_cubes.specs.Cells.{Factor, point, interval, low, is_factor, is_file_factor, is_cell, lower_of, axes_of, cell_of}
 use Rattle.elem_cubes.specs.Corners.{is_end, is_file_end}
-use Rattle.elem_cubes.specs.Walks.{factor_at}
 use Rattle.elem_cubes.proofs.Bits.{parts_of_cell}
 use Rattle.cube_sets.specs.Sorted.{has}
 use Rattle.cube_sets.proofs.Sorting.{search_has}
@@ -33,6 +33,15 @@ key_total = then_total (on_total (λ k. k.corner) (lists_total int_cmp_total)) (
 pub key_same : (k l : Key) → key_cmp k l ≡ Equal → k ≡ l
 key_same k l e = let t = key_tied k l e in λ i. record { corner = t.0 i; upper = t.1 i }
 
+less_greater : Less ≡ Greater → ⊥
+less_greater e = cc
+
+less_equal : Less ≡ Equal → ⊥
+less_equal e = cc
+
+equal_greater : Equal ≡ Greater → ⊥
+equal_greater e = cc
+
 pub place_here : (keys : List Key) (k : Key) (i : ℕ) → IsStrictlySortedBy key_cmp keys → i < length keys → key_cmp (get_or keys i no_key) k ≡ Equal → place_of keys k ≡ i
 place_here keys k i sorted l e = position_or_len_is (λ x. is_eq (key_cmp x k)) keys i no_key (omega arith)
     (λ j lt. let s = key_same (get_or keys i no_key) k e in ap is_eq (ap (λ (x : Key). key_cmp (get_or keys j no_key) x) (sym s) ∙ Less-from_sorted key_cmp keys j i no_key sorted lt l))
@@ -45,13 +54,51 @@ place_missing keys k at r is sorted within found =
     (λ j l. ⊎_elim (λ t. absurd (true≢false (sym (list_any_at (λ x. is_eq (key_cmp x k)) keys j no_key l t) ∙ sym none))) (λ f. f) (cases_Bool (is_eq (key_cmp (get_or keys j no_key) k))))
     (λ l. absurd (omega arith))
 
+-- a key that was read at a place, compared
+pub key_read : (keys : List Key) (k : Key) (i : ℕ) (d : Key) → d ≡ get_or keys i d → i < length keys → key_cmp (get_or keys i no_key) k ≡ key_cmp d k
+key_read keys k i d e l = ap (λ (x : Key). key_cmp x k) (get_or_default keys i no_key d l ∙ sym e)
+
+-- a key above which the next one stands, and below which the one before, is not there
+pub key_between : (keys : List Key) (k : Key) (i : ℕ) → IsStrictlySortedBy key_cmp keys → i < length keys → key_cmp (get_or keys i no_key) k ≡ Greater
+    → (1 ≤ i → key_cmp (get_or keys (i - 1) no_key) k ≡ Less) → place_of keys k ≡ length keys
+key_between keys k i sorted l high low = position_or_len_is (λ x. is_eq (key_cmp x k)) keys (length keys) no_key (omega arith)
+    (λ j within. ⊎_elim (λ t. absurd (nowhere j within ((Equal-is (key_cmp (get_or keys j no_key) k)).0 t))) (λ f. f) (cases_Bool (is_eq (key_cmp (get_or keys j no_key) k))))
+    (λ q. absurd (omega arith))
+  where
+    itself : (x : Key) → key_cmp x x ≡ Equal
+    itself x = tied_itself key_total x
+
+    other_way : (x y : Key) → key_cmp x y ≡ Less → key_cmp y x ≡ Greater
+    other_way x y e = key_total.antisymm y x ∙ ap ordering_reverse e
+
+    nowhere : (j : ℕ) → j < length keys → key_cmp (get_or keys j no_key) k ≡ Equal → ⊥
+    nowhere j within e =
+        let same = key_same (get_or keys j no_key) k e in
+        ⊎_elim
+        (λ (lt : i < j).
+        let up = Less-from_sorted key_cmp keys i j no_key sorted lt within in
+        let h : key_cmp (get_or keys i no_key) (get_or keys j no_key) ≡ Greater = ap (key_cmp (get_or keys i no_key)) same ∙ high in
+        less_greater (sym up ∙ h))
+        (λ (ge : j ≤ i). ⊎_elim
+        (λ (q : j ≡ i). equal_greater (sym e ∙ ap (λ n. key_cmp (get_or keys n no_key) k) q ∙ high))
+        (λ d.
+        let h : key_cmp (get_or keys (i - 1) no_key) (get_or keys j no_key) ≡ Less = ap (key_cmp (get_or keys (i - 1) no_key)) same ∙ low (omega arith) in
+        ⊎_elim
+        (λ (q : j ≡ i - 1). less_equal (sym h ∙ ap (λ n. key_cmp (get_or keys n no_key) (get_or keys j no_key)) (sym q) ∙ itself (get_or keys j no_key)))
+        (λ f.
+        let up = Less-from_sorted key_cmp keys j (i - 1) no_key sorted (omega arith) (omega arith) in
+        less_greater (sym h ∙ other_way (get_or keys j no_key) (get_or keys (i - 1) no_key) up))
+        (cases_eq j (i - 1)))
+        (cases_eq j i))
+        (cases_lt i j)
+
 -- ---- four bits
 
-pub nibble_step : (slot i w : ℕ) → i < slot → nibble (slot - (i + 1)) (w / 16) ≡ nibble (slot - i) w
-nibble_step slot i w l = let e : slot - i ≡ suc (slot - (i + 1)) = omega arith in sym (ap (λ n. nibble n w) e)
-
-pub nibble_last : (slot i w : ℕ) → slot ≤ i → nibble (slot - i) w ≡ w % 16
-nibble_last slot i w l = let e : slot - i ≡ 0 = omega arith in ap (λ n. nibble n w) e
+pub nibble_shift : (k w : ℕ) → nibble k w ≡ w / 2 ^ (4 * k) % 16
+nibble_shift zero w = omega arith
+nibble_shift (suc k) w =
+    let e : 4 + 4 * k ≡ 4 * suc k = omega arith in
+    nibble_shift k (w / 16) ∙ ap (λ x. x % 16) (shr-shr w 4 (4 * k) ∙ ap (λ n. w / 2 ^ n) e)
 
 pub no_word : (w : PackedWords) (c : List Factor) → length w.words ≡ length w.keys → place_of w.keys (key_of c) ≡ length w.keys → 0 ≡ state_of w c
 no_word w c e p = sym (ap (nibble (slot_of c)) (get_or_past w.words (place_of w.keys (key_of c)) 0 (omega arith)) ∙ nibble-zero (slot_of c))

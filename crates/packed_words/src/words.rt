@@ -1,5 +1,5 @@
 //! The states of cells packed into words.
-ghost use Rattle.std.specs.Prelude.{◌≡◌, ℕ, ◌<◌, ◌≤◌, ◌+◌, ◌*◌, ◌^◌, List, true, length, vec_len, slice_index_or, IfOk, if◌then◌else◌};
+ghost use Rattle.std.specs.Prelude.{◌≡◌, ℕ, ◌<◌, ◌≤◌, ◌+◌, ◌*◌, ◌^◌, List, true, length, vec_len, IsTrue, IfOk};
 ghost use Rattle.std.specs.List.{list_all};
 ghost use Rattle.std.specs.List.Sorted.{IsStrictlySortedBy};
 ghost use Rattle.elem_cubes.specs.Cells.{Factor, is_file_factor, same_cell};
@@ -9,7 +9,11 @@ ghost use Rattle.packed_words.specs.Words.{AreWords, AreKeysOf, IsWordOf, IsKey,
 use cell_complex::Numbered;
 use elem_cubes::{Cell, Corner};
 use std::alloc::{AllocError, Global};
+use std::cmp::Ordering;
 use std::marker::Model;
+
+// How many places are looked at one by one before a search of all.
+const FEW: usize = 16;
 
 /// A lower corner with axes from the fifth on.
 #[derive(Clone, Copy, PartialEq, Eq, PartialOrd, Ord)]
@@ -63,11 +67,12 @@ pub fn words_of(alloc: Global, cells: &Numbered, alive: &[bool]) -> Result<Words
     let keys = keys_of(alloc, cells)?;
     let mut words = zero_words(alloc, keys)?;
     let mut near = 0;
+    let mut at = 0;
     'cells: for number in 0..cells.len() {
         if !alive[number as usize] {
             continue;
         }
-        words.enliven(&cells.cell_near(number, &mut near));
+        words.enliven(&cells.cell_near(number, &mut near), &mut at);
     }
     Ok(words)
 }
@@ -83,10 +88,26 @@ fn keys_of(alloc: Global, cells: &Numbered) -> Result<Vec<PackedKey>, AllocError
     let mut keys = Vec::new(alloc);
     let mut near = 0;
     'cells: for number in 0..cells.len() {
-        keys.push(packed_key(&cells.cell_near(number, &mut near)))?;
+        let key = packed_key(&cells.cell_near(number, &mut near));
+        if ends_with(&keys, &key) {
+            continue;
+        }
+        keys.push(key)?;
     }
     sort_distinct(&mut keys);
     Ok(keys)
+}
+
+// Whether the key is the last of the list; then it is in the list.
+#[tactic(auto, using(crate::proofs::Keys::last_has))]
+fn ends_with(keys: &[PackedKey], key: &PackedKey) -> bool
+    ensures { IsTrue result → has key_cmp keys.now key.now ≡ true }
+{
+    let count = keys.len();
+    if count == 0 {
+        return false;
+    }
+    keys[count - 1].cmp(key).is_eq()
 }
 
 // Sorts the values, and keeps one of those that are equal.
@@ -114,16 +135,52 @@ fn zero_words(alloc: Global, keys: Vec<PackedKey>) -> Result<Words, AllocError>
     Ok(Words { keys, words })
 }
 
-// The place of a key in a sorted list, or how many keys there are.
-fn place_in(keys: &[PackedKey], key: &PackedKey) -> usize
+// The place of a key in a sorted list, or how many keys there are. `near` becomes that place, or that
+// of the last key below.
+fn place_in(keys: &[PackedKey], key: &PackedKey, near: &mut usize) -> usize
     requires { IsStrictlySortedBy key_cmp keys.now }
     ensures place { result ≡ place_of keys.now key.now }
     ensures within { result ≤ length keys.now }
 {
     match keys.binary_search(key) {
-        Ok(place) => place,
-        Err(_) => keys.len(),
+        Ok(place) => {
+            *near = place;
+            place
+        }
+        Err(place) => {
+            *near = place.saturating_sub(1);
+            keys.len()
+        }
     }
+}
+
+// The same, found sooner where it is one of the few from `near` on, or would stand among them.
+fn place_from(keys: &[PackedKey], key: &PackedKey, near: &mut usize) -> usize
+    requires { IsStrictlySortedBy key_cmp keys.now }
+    ensures place { result ≡ place_of keys.now key.now }
+    ensures within { result ≤ length keys.now }
+{
+    let end = near.saturating_add(FEW).min(keys.len());
+    let mut below = false;
+    'few: for place in *near..end {
+        match keys[place].cmp(key) {
+            Ordering::Less => {
+                below = true;
+                *near = place;
+            }
+            Ordering::Equal => {
+                *near = place;
+                return place;
+            }
+            Ordering::Greater => {
+                if below || place == 0 {
+                    return keys.len();
+                }
+                return place_in(keys, key, near);
+            }
+        }
+    }
+    place_in(keys, key, near)
 }
 
 // The key of a cell.
@@ -141,13 +198,10 @@ fn packed_key(cell: &Cell) -> PackedKey
 
 // Four bits of a word.
 fn four_bits(word: u64, slot: u8) -> u8
+    requires { slot < 16 }
     ensures { result ≡ nibble slot word }
 {
-    let mut rest = word;
-    for _ in 0..slot {
-        rest /= 16;
-    }
-    (rest % 16) as u8
+    ((word >> (4 * slot)) % 16) as u8
 }
 
 impl Words {
@@ -189,22 +243,65 @@ impl Words {
         ensures place { result ≡ place_of self.now.keys (key_of cell.now) }
         ensures within { result ≤ length self.now.keys }
     {
-        place_in(&self.keys, &packed_key(cell)) as u32
+        let mut near = 0;
+        place_in(&self.keys, &packed_key(cell), &mut near) as u32
+    }
+
+    /// The same, found sooner where the place is one of the few from the one that was found with
+    /// this `near` before; at first `near` is 0.
+    pub fn place_near(&self, cell: &Cell, near: &mut u32) -> u32
+        ensures place { result ≡ place_of self.now.keys (key_of cell.now) }
+        ensures within { result ≤ length self.now.keys }
+    {
+        let mut at = *near as usize;
+        let place = place_from(&self.keys, &packed_key(cell), &mut at);
+        if at < self.keys.len() {
+            *near = at as u32;
+        }
+        place as u32
+    }
+
+    /// The word that has a cell's state, found as its place is; 0 where there is none.
+    pub fn word_near(&self, cell: &Cell, near: &mut u32) -> u64
+        ensures { result ≡ word_at self.now (place_of self.now.keys (key_of cell.now)) }
+    {
+        let place = self.place_near(cell, near);
+        if place >= self.len() {
+            return 0;
+        }
+        self.word(place)
+    }
+
+    // The state of a cell whose key is at a place, or has none.
+    fn state_at(&self, cell: &Cell, place: u32) -> u8
+        requires place { place ≡ place_of self.now.keys (key_of cell.now) }
+        requires within { place ≤ length self.now.keys }
+        ensures { result ≡ state_of self.now cell.now }
+    {
+        if place >= self.len() {
+            return 0;
+        }
+        four_bits(self.word(place), cell.axes() % 16)
     }
 
     /// The state of a cell; 0 where it has no word.
     pub fn state(&self, cell: &Cell) -> u8
         ensures { result ≡ state_of self.now cell.now }
     {
-        let place = self.place(cell);
-        if place == self.len() {
-            return 0;
-        }
-        four_bits(self.word(place), cell.axes() % 16)
+        self.state_at(cell, self.place(cell))
+    }
+
+    /// The same, found sooner where the cell's word is soon after the place that was found with this
+    /// `near` before; at first `near` is 0.
+    pub fn state_near(&self, cell: &Cell, near: &mut u32) -> u8
+        ensures { result ≡ state_of self.now cell.now }
+    {
+        let place = self.place_near(cell, near);
+        self.state_at(cell, place)
     }
 
     // Makes a cell alive that has a word, where its state is 0.
-    fn enliven(&mut self, cell: &Cell)
+    fn enliven(&mut self, cell: &Cell, near: &mut u32)
         requires placed { place_of self.old.keys (key_of cell.now) < length self.old.keys }
         requires in_range { list_all is_file_factor cell.now ≡ true }
         requires dead { state_of self.old cell.now ≡ 0 }
@@ -212,7 +309,7 @@ impl Words {
         ensures states { IsEnlivened cell.now self.old self.new }
     {
         let _ = self.len();
-        let place = self.place(cell);
+        let place = self.place_near(cell, near);
         let unit = 16u64.pow(u32::from(cell.axes() % 16));
         let word = self.word(place) + unit;
         self.put(place, word);

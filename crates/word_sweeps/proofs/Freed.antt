@@ -185,3 +185,23 @@ word_grows w t k keeps f e =
 
 pub reached_more : (first w : PackedWords) (t : List Factor × List Factor) → AreReached first w → IsFreeIn w t → AreReached first (words_without t w)
 reached_more first w t h f = (h.0 ++ t ∷ [], reached_append first w h.0 t h.1 f)
+
+-- ---- all ranks of a corner
+
+pub sizes_stay : (first w : PackedWords) (ts : List (List Factor × List Factor)) → length first.words ≡ length first.keys → IsReachedBy first ts w → length w.words ≡ length w.keys
+sizes_stay first w [] e h = subst (λ (x : PackedWords). length x.words ≡ length x.keys) (sym h) e
+sizes_stay first w (t ∷ ts) e h = sizes_stay (words_without t first) w ts (same_size first t e) h.1
+
+pub swept_point : (start w next : PackedWords) (i : ℕ) → AreWords start → length w.words ≡ length w.keys → IsSwept start w (4 * i) → AreReached w next
+    → ((t : List Factor × List Factor) → lower_of t.0 ≡ (key_at start i).corner → ¬ IsFreeIn next t) → IsSwept start next (4 * (i + 1))
+swept_point start w next i keeps count s more none =
+    let after = sizes_stay w next more.0 count more.1 in
+    let stay : AreReached next next = ([], refl) in
+    let e : 4 * i ≡ 4 * i + 0 = omega arith in
+    let f : 4 * i + 4 ≡ 4 * (i + 1) = omega arith in
+    let s0 : IsSwept start w (4 * i + 0) = subst (λ (n : ℕ). IsSwept start w n) e s in
+    let s1 : IsSwept start next (4 * i + 1) = swept_next start w next i 0 keeps count s0 (omega arith) more (λ t c d. none t c) in
+    let s2 : IsSwept start next (4 * i + 2) = swept_next start next next i 1 keeps after s1 (omega arith) stay (λ t c d. none t c) in
+    let s3 : IsSwept start next (4 * i + 3) = swept_next start next next i 2 keeps after s2 (omega arith) stay (λ t c d. none t c) in
+    let s4 : IsSwept start next (4 * i + 4) = swept_next start next next i 3 keeps after s3 (omega arith) stay (λ t c d. none t c) in
+    subst (λ (n : ℕ). IsSwept start next n) f s4

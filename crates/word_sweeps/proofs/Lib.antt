@@ -5,5 +5,8 @@ pub mod Taken
 pub mod Turns
 pub mod Ranks
 pub mod Sole
+pub mod Cofaces
+pub mod FreeSlots
 pub mod Freed
 pub mod Listed
+pub mod Steps

@@ -92,6 +92,19 @@ module _ (start last : PackedWords) (keeps : AreWords start) (h : AreReached sta
       sizes first w [] e h = subst (λ (x : PackedWords). length x.words ≡ length x.keys) (sym h) e
       sizes first w (t ∷ ts) e h = sizes (words_without t first) w ts (same_size first t e) h.1
 
+  pub ordered_point : (w next : PackedWords) (ps now : List (List Factor × List Factor)) (i : ℕ) → IsOrderedTo start last w ps (4 * i) → GoesOn last w ps next now
+      → ((t : List Factor × List Factor) → lower_of t.0 ≡ (key_at start i).corner → ¬ IsTurn next last t) → IsOrderedTo start last next now (4 * (i + 1))
+  ordered_point w next ps now i o g none =
+      let stay : GoesOn last next now next now = on_first last next now in
+      let e : 4 * i ≡ 4 * i + 0 = omega arith in
+      let f : 4 * i + 4 ≡ 4 * (i + 1) = omega arith in
+      let o0 : IsOrderedTo start last w ps (4 * i + 0) = subst (λ (n : ℕ). IsOrderedTo start last w ps n) e o in
+      let o1 : IsOrderedTo start last next now (4 * i + 1) = ordered_next w next ps now i 0 (omega arith) o0 g (λ t c d. none t c) in
+      let o2 : IsOrderedTo start last next now (4 * i + 2) = ordered_next next next now now i 1 (omega arith) o1 stay (λ t c d. none t c) in
+      let o3 : IsOrderedTo start last next now (4 * i + 3) = ordered_next next next now now i 2 (omega arith) o2 stay (λ t c d. none t c) in
+      let o4 : IsOrderedTo start last next now (4 * i + 4) = ordered_next next next now now i 3 (omega arith) o3 stay (λ t c d. none t c) in
+      subst (λ (n : ℕ). IsOrderedTo start last next now n) f o4
+
   module _ (w : PackedWords) (ps : List (List Factor × List Factor)) (i : ℕ) (l : length start.keys ≤ i) (o : IsOrderedTo start last w ps (4 * i)) where
     pub all_taken : (t : List Factor × List Factor) → IsTakenPair start last t → Contains ps t
     all_taken t v = let p = corner_placed start keeps.sorted keeps.count t.0 v.alive in o.below t v (omega (arith, p.0))

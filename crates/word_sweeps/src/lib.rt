@@ -3,6 +3,7 @@
 
 mod laws;
 mod pairs;
+mod slots;
 mod sweeping;
 
 pub use laws::{

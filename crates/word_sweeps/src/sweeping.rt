@@ -1,12 +1,13 @@
 //! Free one-point pairs of packed words, removed and put in order.
-ghost use Rattle.std.specs.Prelude.{◌≡◌, ◌<◌, ◌+◌, ◌↔◌, List, length, IsTrue, OnOk, IfOk, IfSome, IfNone};
-ghost use Rattle.elem_cubes.specs.Cells.{Factor};
-ghost use Rattle.cell_complex.specs.FreePairs.{IsFreePair, differing_axis, AreFreeInTurn};
-ghost use Rattle.packed_words.specs.Words.{key_of, state_of, is_alive};
-ghost use Rattle.word_sweeps.specs.Reached.{IsFreeIn, IsTurn, GoesOn, AreReached, AreUntaken, HasNoOnePointPair, NoneAt, AreTakenPairs, Leave, key_with};
+ghost use Rattle.std.specs.Prelude.{◌≡◌, length, OnOk, IfOk};
+ghost use Rattle.cell_complex.specs.FreePairs.{AreFreeInTurn};
+ghost use Rattle.packed_words.specs.Words.{AreWords, is_alive};
+ghost use Rattle.word_sweeps.specs.Reached.{IsFreeIn, IsTurn, GoesOn, AreReached, AreUntaken, HasNoOnePointPair, AreTakenPairs, Leave};
+ghost use Rattle.word_sweeps.specs.FreeSlots.{NoneAtCorner};
 
-use crate::pairs::{axis_between, remove};
-use elem_cubes::{Cell, Corner};
+use crate::pairs::{Near, cells_of, look_around, remove};
+use crate::slots::{free_slot, taken_slot};
+use elem_cubes::{Cell, Corner, MAX_EMBEDDING};
 use packed_words::Words;
 use std::alloc::{AllocError, Global};
 
@@ -19,89 +20,33 @@ pub fn sweep(alloc: Global, start: &Words) -> Result<Words, AllocError>
 {
     let _ = start.len();
     let mut words = start.copy(alloc)?;
+    let mut near = first_near();
     'points: for i in 0..start.len() {
-        let corner = start.point(i);
-        'uppers: for k in 0..4 {
-            let _ = words.len();
-            sweep_word(&mut words, corner, 3 - k);
-        }
+        sweep_point(&mut words, &start.point(i), &mut near);
     }
     Ok(words)
 }
 
-// Removes free pairs whose faces are at a corner with these upper axes, until there is none.
-fn sweep_word(words: &mut Words, corner: Corner, upper: u8)
-    requires { upper < 4 }
+// Where words are looked for at first.
+fn first_near() -> Near {
+    Near {
+        own: 0,
+        below: [0; MAX_EMBEDDING],
+    }
+}
+
+// Removes free pairs whose faces are at a corner, until there is none.
+fn sweep_point(words: &mut Words, corner: &Corner, near: &mut Near)
     ensures reached { AreReached words.old words.new }
-    ensures none { NoneAt corner upper (IsFreeIn words.new) }
+    ensures none { NoneAtCorner corner.now (IsFreeIn words.new) }
+    ensures words { AreWords words.old }
 {
-    let _ = words.len();
-    'pairs: while let Some(pair) = first_free(words, corner, upper) {
-        remove(words, &pair.0, &pair.1);
-    }
-}
-
-// The first free pair whose face is at a corner with these upper axes.
-fn first_free(words: &Words, corner: Corner, upper: u8) -> Option<(Cell, Cell)>
-    requires { upper < 4 }
-    ensures some { IfSome result (λ t. IsFreeIn words.now t) }
-    ensures place { IfSome result (λ t. key_of t.0 ≡ key_with corner upper) }
-    ensures none { IfNone result (NoneAt corner upper (IsFreeIn words.now)) }
-{
-    let _ = words.len();
-    'slots: for slot in 0..16 {
-        let Some(face) = Cell::new(corner, 16 * upper + slot) else {
-            continue;
-        };
-        if let Some(coface) = free_coface_in(words, &face) {
-            return Some((face, coface));
-        }
-    }
-    None
-}
-
-// The coface with which a cell is a free one-point pair.
-fn free_coface_in(words: &Words, face: &Cell) -> Option<Cell>
-    ensures some { IfSome result (λ b. IsFreeIn words.now (face.now, b)) }
-    ensures none { IfNone result ((b : List Factor) → ¬ IsFreeIn words.now (face.now, b)) }
-{
-    if words.state(face) != 1 {
-        return None;
-    }
-    let Some(coface) = only_coface(words, face) else {
-        return None;
+    let Some(around) = look_around(words, corner, near) else {
+        return;
     };
-    if face.lower() != coface.lower() {
-        return None;
+    'pairs: while let Some(pair) = free_slot(words.word(around.place), &around.below, around.axes) {
+        remove(words, corner, around.place, &pair);
     }
-    if axis_between(face, &coface) > 4 {
-        return None;
-    }
-    Some(coface)
-}
-
-// The one cell alive that has a cell that is alive as a facet.
-fn only_coface(words: &Words, face: &Cell) -> Option<Cell>
-    requires { state_of words.now face.now ≡ 1 }
-    ensures some { IfSome result (λ b. IsFreePair (is_alive words.now) face.now b) }
-    ensures none { IfNone result ((b : List Factor) → ¬ IsFreePair (is_alive words.now) face.now b) }
-{
-    let _ = words.len();
-    let mut found = None;
-    for (coface, _) in face.cofaces() {
-        if words.state(&coface) != 1 {
-            continue;
-        }
-        match found {
-            None => found = Some(coface),
-            Some(other) => {
-                if other != coface {
-                    return None;
-                }
-            }
-        }
-    }
-    found
 }
 
 /// The pairs that were removed between the words, each a face and its coface, in an order in which
@@ -115,61 +60,37 @@ pub fn order(alloc: Global, start: &Words, last: &Words) -> Result<Vec<(Cell, Ce
     let _ = start.len();
     let mut words = start.copy(alloc)?;
     let mut pairs = Vec::new(alloc);
+    let mut near = first_near();
     'points: for i in 0..start.len() {
-        let lower = start.point(i);
-        'uppers: for k in 0..4 {
-            order_word(&mut words, &mut pairs, last, lower, 3 - k)?;
-        }
+        order_point(&mut words, &mut pairs, last, &start.point(i), &mut near)?;
     }
     Ok(pairs)
 }
 
-// Goes on with the taken pairs whose faces are at a corner with these upper axes, each as soon as
-// it is free.
-fn order_word(
+// Goes on with the taken pairs whose faces are at a corner, each as soon as it is free.
+fn order_point(
     words: &mut Words,
     pairs: &mut Vec<(Cell, Cell)>,
     last: &Words,
-    corner: Corner,
-    upper: u8,
+    corner: &Corner,
+    near: &mut Near,
 ) -> Result<(), AllocError>
-    requires { upper < 4 }
+    requires { last.now.keys ≡ words.old.keys }
     ensures on { OnOk result (GoesOn last.now words.old pairs.old.items words.new pairs.new.items) }
-    ensures none { OnOk result (NoneAt corner upper (IsTurn words.new last.now)) }
+    ensures none { OnOk result (NoneAtCorner corner.now (IsTurn words.new last.now)) }
 {
-    'pairs: while let Some(pair) = first_taken(words, last, corner, upper) {
-        pairs.push(pair)?;
-        remove(words, &pair.0, &pair.1);
+    let Some(around) = look_around(words, corner, near) else {
+        return Ok(());
+    };
+    let end = last.word(around.place);
+    'pairs: while let Some(pair) = taken_slot(
+        words.word(around.place),
+        end,
+        &around.below,
+        around.axes,
+    ) {
+        pairs.push(cells_of(corner, &pair))?;
+        remove(words, corner, around.place, &pair);
     }
     Ok(())
-}
-
-// The first taken pair that is free and whose face is at a corner with these upper axes.
-fn first_taken(words: &Words, last: &Words, corner: Corner, upper: u8) -> Option<(Cell, Cell)>
-    requires { upper < 4 }
-    ensures some { IfSome result (λ t. IsTurn words.now last.now t) }
-    ensures place { IfSome result (λ t. key_of t.0 ≡ key_with corner upper) }
-    ensures none { IfNone result (NoneAt corner upper (IsTurn words.now last.now)) }
-{
-    let _ = words.len();
-    'slots: for slot in 0..16 {
-        let Some(face) = Cell::new(corner, 16 * upper + slot) else {
-            continue;
-        };
-        let Some(coface) = free_coface_in(words, &face) else {
-            continue;
-        };
-        if is_listed(last, &face, &coface) {
-            return Some((face, coface));
-        }
-    }
-    None
-}
-
-// Whether the words record that the pair of a facet and a cell was taken.
-fn is_listed(last: &Words, face: &Cell, coface: &Cell) -> bool
-    requires { length face.now ≡ length coface.now }
-    ensures { IsTrue result ↔ (state_of last.now face.now ≡ 2 + differing_axis face.now coface.now) }
-{
-    u32::from(last.state(face)) == 2 + u32::from(axis_between(face, coface))
 }

@@ -1,9 +1,6 @@
-use Rattle.std.proofs.Common.{◌+◌, ◌*◌}
+use Rattle.std.proofs.Common.{◌*◌}
 use Rattle.word_sweeps.proofs.Freed.{IsSwept}
 use Rattle.word_sweeps.proofs.sweeping.sweep.Given as goal
 
 abbrev pub invariant-points : goal.invariant-points
 invariant-points l = IsSwept l.start l.words (4 * l.i)
-
-abbrev pub invariant-uppers : goal.invariant-uppers
-invariant-uppers l = IsSwept l.start l.words (4 * l.i + l.k)

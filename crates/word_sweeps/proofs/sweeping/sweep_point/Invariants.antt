@@ -1,0 +1,15 @@
+use Rattle.std.proofs.Common.{◌-◌, ◌^◌}
+use Rattle.packed_words.specs.Words.{AreWords, word_at}
+use Rattle.word_sweeps.specs.Reached.{AreReached}
+use Rattle.word_sweeps.specs.FreeSlots.{IsAround}
+use Rattle.word_sweeps.proofs.sweeping.sweep_point.Given as goal
+
+abbrev pub invariant-pairs : goal.invariant-pairs
+invariant-pairs l = record {
+  reached : AreReached l.fn.words l.words;
+  words : AreWords l.words;
+  around : IsAround l.words l.corner l.around.place l.around.axes l.around.below;
+}
+
+abbrev pub decreases-pairs : goal.decreases-pairs
+decreases-pairs l = 2 ^ 64 - word_at l.words l.around.place
