@@ -41,8 +41,8 @@ fn free_coface<const P: u16>(
     only_coface(tallies, face)
 }
 
-/// The first waiting face of a free pair, with its coface. Those before it wait no more; none of the
-/// others that do not wait is the face of a free pair.
+/// The first waiting face of a free pair, with its coface. Those before it wait no more; none of
+/// the others that do not wait is the face of a free pair.
 pub(crate) fn next_free<const P: u16>(
     log: &Log<P>,
     cells: &Numbered,

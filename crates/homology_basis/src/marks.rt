@@ -32,7 +32,11 @@ pub(crate) fn left_marks<const P: u16>(
 }
 
 // The cells that are marked as left, in order.
-pub(crate) fn left_cells(alloc: Global, marks: &[bool], cells: &Numbered) -> Result<CellList, AllocError>
+pub(crate) fn left_cells(
+    alloc: Global,
+    marks: &[bool],
+    cells: &Numbered,
+) -> Result<CellList, AllocError>
     requires { length marks.now ≡ length cells.now }
     ensures left { IfOk result (λ l. (ss : List Step) → TellLeft (length cells.now) ss marks.now
         → (c : List Factor) → has cell_cmp l c ≡ is_left cells.now ss c) }

@@ -1,4 +1,4 @@
-use Rattle.std.proofs.Common.{◌∙◌, arith, sym, subst, List}
+use Rattle.std.proofs.Common.{arith, sym, subst, List}
 use Rattle.elem_cubes.specs.Cells.{Factor}
 use Rattle.cell_complex.specs.FreePairs.{AreFreeInTurn}
 use Rattle.excision.specs.Left.{is_left}

@@ -1,5 +1,4 @@
-use Rattle.std.proofs.Common.{◌∙◌, sym, subst, ap, length, List, Bool}
-use Rattle.homology_basis.specs.Marks.{TellLeft}
+use Rattle.std.proofs.Common.{◌∙◌, subst, ap, length, List, Bool}
 use Rattle.packed_words.specs.Words.{HaveStates, is_alive}
 use Rattle.excision.specs.Left.{is_left}
 use Rattle.face_reduction.proofs.Pairing.{free_alike}
