@@ -16,19 +16,24 @@ use cube_maps::CubeMap;
 use cube_sets::CubeSet;
 use field_mod::Field;
 use map_checks::value_at;
+use read_parts::ReadMap;
 use std::alloc::{AllocError, Global};
 use witness_sections::{cell_of, read_chains};
-use read_parts::ReadMap;
 use witness_types::WitnessFault;
 
 /// The cells of the domain and of the range of a map with their complexes, and the images of the
 /// cells by the numbers of the cells of the range from 0 on.
 #[derive(Drop)]
 pub struct MapSides<const P: u16> {
+    /// The cells of the domain.
     pub domain: Numbered,
+    /// And those of the range.
     pub range: Numbered,
+    /// The complex of the domain.
     pub domain_complex: Complex<P>,
+    /// And that of the range.
     pub range_complex: Complex<P>,
+    /// The image of each cell of the domain.
     pub images: Vec<Chain<P>>,
 }
 
