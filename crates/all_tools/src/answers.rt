@@ -1,10 +1,10 @@
 //! From a command to its answer, for whichever tool it names.
 ghost use Rattle.loading.specs.Jobs.{Answers};
-ghost use Rattle.all_tools.specs.Jobs.{task_by, pair_of, two_files, chain_of, holes_of, values_of, map_of};
-ghost use Rattle.tool.specs.Tasks.{Provides};
+ghost use Rattle.all_tools.specs.Jobs.{task_by, pair_of, two_files, chain_of, holes_of, values_of, map_of, x_of};
+ghost use Rattle.tool.specs.Tasks.{Provides, alone};
 ghost use Rattle.pair_tool.specs.Jobs.{pair_job};
 ghost use Rattle.pair_witness.specs.Jobs.{witness_task};
-ghost use Rattle.set_tools.specs.Jobs.{combination_job};
+ghost use Rattle.set_tools.specs.Jobs.{combination_job, neighbours_job, cells_job};
 ghost use Rattle.chain_tool.specs.Jobs.{chain_job};
 ghost use Rattle.gen_tool.specs.Jobs.{holes_job};
 ghost use Rattle.map_homology.specs.Jobs.{map_job};
@@ -26,7 +26,6 @@ use std::alloc::Global;
 use tool::{Output, alone};
 
 /// What a tool writes to answer a command, or the first refusal.
-#[tactic(auto, using(tool::proofs::Lifting::lifts))]
 pub fn answer_by<F: Files>(
     alloc: Global,
     files: &mut F,
@@ -37,31 +36,126 @@ pub fn answer_by<F: Files>(
 {
     match tool {
         ToolName::Homcubes => pair_output(alloc, files, command),
-        ToolName::MapHomology => alone(map_answer(alloc, files, command)),
-        ToolName::Cubunion => {
-            alone(combination_answer(alloc, files, command, Combination::Union))
-        }
-        ToolName::Cubinter => {
-            alone(combination_answer(alloc, files, command, Combination::Intersection))
-        }
-        ToolName::Cubnbhd => alone(set_tools::neighbours(alloc, files, command.first())),
-        ToolName::Cubcells => alone(set_tools::cells(alloc, files, command.first())),
-        ToolName::Homchain => alone(chain_answer(alloc, files, command)),
-        ToolName::Gen => alone(holes_answer(alloc, files, command)),
-        ToolName::Chkmvmap => alone(values_answer(alloc, files, command)),
+        ToolName::MapHomology => map_output(alloc, files, command),
+        ToolName::Cubunion => union_output(alloc, files, command),
+        ToolName::Cubinter => intersection_output(alloc, files, command),
+        ToolName::Cubnbhd => neighbours_output(alloc, files, command),
+        ToolName::Cubcells => cells_output(alloc, files, command),
+        ToolName::Homchain => chain_output(alloc, files, command),
+        ToolName::Gen => holes_output(alloc, files, command),
+        ToolName::Chkmvmap => values_output(alloc, files, command),
     }
 }
 
 // The homology of a set or a pair, and its witness where one is wanted.
-#[tactic(auto, using(tool::proofs::Lifting::lifts))]
 fn pair_output<F: Files>(alloc: Global, files: &mut F, command: &Command) -> Result<Output, Fault>
     ensures { Provides (task_by ToolName.Homcubes command.now)
         (F.seen files.old) (F.seen files.new) result }
 {
     match command.options().witness() {
         Some(file) => pair_witnessed(alloc, files, command, file),
-        None => alone(pair_answer(alloc, files, command)),
+        None => pair_alone(alloc, files, command),
     }
+}
+
+// The homology of a set or a pair with no witness.
+fn pair_alone<F: Files>(alloc: Global, files: &mut F, command: &Command) -> Result<Output, Fault>
+    ensures { Provides (alone (pair_job (pair_of command.now)))
+        (F.seen files.old) (F.seen files.new) result }
+{
+    alone(pair_answer(alloc, files, command))
+}
+
+// The matrices of a map, alone.
+fn map_output<F: Files>(alloc: Global, files: &mut F, command: &Command) -> Result<Output, Fault>
+    ensures { Provides (task_by ToolName.MapHomology command.now)
+        (F.seen files.old) (F.seen files.new) result }
+{
+    alone(map_answer(alloc, files, command))
+}
+
+// The union of two sets, alone.
+fn union_output<F: Files>(alloc: Global, files: &mut F, command: &Command) -> Result<Output, Fault>
+    ensures { Provides (task_by ToolName.Cubunion command.now)
+        (F.seen files.old) (F.seen files.new) result }
+{
+    alone(combination_answer(alloc, files, command, Combination::Union))
+}
+
+// The intersection of two sets, alone.
+fn intersection_output<F: Files>(
+    alloc: Global,
+    files: &mut F,
+    command: &Command,
+) -> Result<Output, Fault>
+    ensures { Provides (task_by ToolName.Cubinter command.now)
+        (F.seen files.old) (F.seen files.new) result }
+{
+    alone(combination_answer(alloc, files, command, Combination::Intersection))
+}
+
+// The cubes that touch a set, alone.
+fn neighbours_output<F: Files>(
+    alloc: Global,
+    files: &mut F,
+    command: &Command,
+) -> Result<Output, Fault>
+    ensures { Provides (task_by ToolName.Cubnbhd command.now)
+        (F.seen files.old) (F.seen files.new) result }
+{
+    alone(neighbours_answer(alloc, files, command))
+}
+
+// The cells of a set, alone.
+fn cells_output<F: Files>(alloc: Global, files: &mut F, command: &Command) -> Result<Output, Fault>
+    ensures { Provides (task_by ToolName.Cubcells command.now)
+        (F.seen files.old) (F.seen files.new) result }
+{
+    alone(cells_answer(alloc, files, command))
+}
+
+// The homology of a chain file, alone.
+fn chain_output<F: Files>(alloc: Global, files: &mut F, command: &Command) -> Result<Output, Fault>
+    ensures { Provides (task_by ToolName.Homchain command.now)
+        (F.seen files.old) (F.seen files.new) result }
+{
+    alone(chain_answer(alloc, files, command))
+}
+
+// Squares with holes, alone.
+fn holes_output<F: Files>(alloc: Global, files: &mut F, command: &Command) -> Result<Output, Fault>
+    ensures { Provides (task_by ToolName.Gen command.now)
+        (F.seen files.old) (F.seen files.new) result }
+{
+    alone(holes_answer(alloc, files, command))
+}
+
+// The test of the values of a map, alone.
+fn values_output<F: Files>(alloc: Global, files: &mut F, command: &Command) -> Result<Output, Fault>
+    ensures { Provides (task_by ToolName.Chkmvmap command.now)
+        (F.seen files.old) (F.seen files.new) result }
+{
+    alone(values_answer(alloc, files, command))
+}
+
+// The cubes that touch a set.
+fn neighbours_answer<F: Files>(
+    alloc: Global,
+    files: &mut F,
+    command: &Command,
+) -> Result<Answer, Fault>
+    ensures { Answers (neighbours_job (x_of command.now))
+        (F.seen files.old) (F.seen files.new) result }
+{
+    set_tools::neighbours(alloc, files, command.first())
+}
+
+// The cells of a set.
+fn cells_answer<F: Files>(alloc: Global, files: &mut F, command: &Command) -> Result<Answer, Fault>
+    ensures { Answers (cells_job (x_of command.now))
+        (F.seen files.old) (F.seen files.new) result }
+{
+    set_tools::cells(alloc, files, command.first())
 }
 
 // The homology of a set or a pair with its witness.
