@@ -67,7 +67,7 @@ fn sides_of<const P: u16>(
     requires domain { IsOfPair domain }
     requires range { IsOfPair range }
     requires images { AreNamed (length range) images.now }
-    ensures { IfOk result (AreSides domain.entry range.entry images.now) }
+    ensures { IfOk result (AreSides domain range images.now) }
 {
     // Its clauses say that the cells stand in order.
     let _count = range.len();

@@ -1,4 +1,4 @@
-use Rattle.std.proofs.Common.{◌≡◌, ◌∙◌, ap, sym, subst, length, map}
+use Rattle.std.proofs.Common.{arith, ◌≡◌, ◌∙◌, ap, sym, subst, length, map}
 use Rattle.witness_types.specs.Parts.{pair_tables}
 use Rattle.witness_testing.specs.Claims.{AreSmall, AreMadeOf}
 use Rattle.witness_testing.proofs.Claiming.{claimed}
@@ -13,4 +13,4 @@ returns g c =
 
 pub matrices_of-requires : goal.matrices_of-requires
 matrices_of-requires g c =
-    ((omega arith), (subst (AreSmall c.args.others.rows.items) (sym (c.deref.ensures.value ∙ c.in_ok-domain.ensures)) c.requires.matrices))
+    ((omega arith), ((omega arith), (subst (AreSmall c.args.others.rows.items) (sym (c.deref.ensures.value ∙ c.in_ok-domain.ensures)) c.requires.matrices)))

@@ -1,4 +1,4 @@
-use Rattle.std.proofs.Common.{◌≡◌, ◌∙◌, ap, sym, subst}
+use Rattle.std.proofs.Common.{arith, ◌≡◌, ◌∙◌, ap, sym, subst}
 use Rattle.std.proofs.lemmas.Result.{IfOk-weaker, IfErr-weaker}
 use Rattle.witness_laws.specs.Tables.{tables_format}
 use Rattle.witness_types.specs.Inputs.{given_of, IsWitnessInput, IsWithinTables}
@@ -38,8 +38,8 @@ returns-in-Pair-clause-err g c =
 
 pub test_pair-requires : goal.test_pair-requires
 test_pair-requires g c =
-    ((omega arith), ((omega arith), ((subst IsWitnessInput c.in-Pair.is c.requires.input), (((subst (λ z. IsWithinTables (given_of z)) c.in-Pair.is c.requires.limits).domain), (let G = given_of c.args.input.now in let e = ap given_of c.in-Pair.is in pair_testable G c.args.parts c.in-Pair.x.now c.in-Pair.a.now e (pair_alone G c.args.parts c.in-Pair.x.now c.in-Pair.a.now e c.requires.parts) c.requires.parts)))))
+    ((omega arith), ((omega arith), ((omega arith), ((subst IsWitnessInput c.in-Pair.is c.requires.input), (((subst (λ z. IsWithinTables (given_of z)) c.in-Pair.is c.requires.limits).domain), (let G = given_of c.args.input.now in let e = ap given_of c.in-Pair.is in pair_testable G c.args.parts c.in-Pair.x.now c.in-Pair.a.now e (pair_alone G c.args.parts c.in-Pair.x.now c.in-Pair.a.now e c.requires.parts) c.requires.parts))))))
 
 pub test_map-requires : goal.test_map-requires
 test_map-requires g c =
-    ((omega arith), ((omega arith), ((omega arith), (((subst IsWitnessInput c.in-Map.is c.requires.input).0.x_a), (((subst IsWitnessInput c.in-Map.is c.requires.input).0.y_b), (((subst IsWitnessInput c.in-Map.is c.requires.input).1), (((subst (λ z. IsWithinTables (given_of z)) c.in-Map.is c.requires.limits).domain), (((subst (λ z. IsWithinTables (given_of z)) c.in-Map.is c.requires.limits).range), (map_testable (given_of c.args.input.now) c.args.parts c.in-Map.cubes.now c.in-Map.x.now c.in-Map.a.now c.in-Map.y.now c.in-Map.b.now (ap given_of c.in-Map.is) c.in-Some.part c.in-Some.is c.requires.parts)))))))))
+    ((omega arith), ((omega arith), ((omega arith), ((omega arith), (((subst IsWitnessInput c.in-Map.is c.requires.input).0.x_a), (((subst IsWitnessInput c.in-Map.is c.requires.input).0.y_b), (((subst IsWitnessInput c.in-Map.is c.requires.input).1), (((subst (λ z. IsWithinTables (given_of z)) c.in-Map.is c.requires.limits).domain), (((subst (λ z. IsWithinTables (given_of z)) c.in-Map.is c.requires.limits).range), (map_testable (given_of c.args.input.now) c.args.parts c.in-Map.cubes.now c.in-Map.x.now c.in-Map.a.now c.in-Map.y.now c.in-Map.b.now (ap given_of c.in-Map.is) c.in-Some.part c.in-Some.is c.requires.parts))))))))))

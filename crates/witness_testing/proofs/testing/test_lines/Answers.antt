@@ -143,7 +143,7 @@ test_side-requires-2 g c =
 
 pub sides_of-requires : goal.sides_of-requires
 sides_of-requires g c =
-    ((omega arith), ((omega arith), ((let P = g.row.P in let mp = c.args.map.now in let x = c.args.x.now in let a = c.args.a.now in let y = c.args.y.now in let b = c.args.b.now in let part = c.args.domain.now in let m = c.args.part.now in let t = c.requires.parts in let nf = c.requires.faultless in let cells_are = c.in_ok-cells.ensures ∙ ap cells_of c.in_ok-domain_set.ensures in whole_pair (together x.cells a.cells) c.in_ok-cells.cells cells_are), ((let P = g.row.P in let mp = c.args.map.now in let x = c.args.x.now in let a = c.args.a.now in let y = c.args.y.now in let b = c.args.b.now in let part = c.args.domain.now in let m = c.args.part.now in let t = c.requires.parts in let nf = c.requires.faultless in let others_are = c.in_ok-others.ensures ∙ ap cells_of c.in_ok-range_set.ensures in whole_pair (together y.cells b.cells) c.in_ok-others.others others_are), (let P = g.row.P in let mp = c.args.map.now in let x = c.args.x.now in let a = c.args.a.now in let y = c.args.y.now in let b = c.args.b.now in let part = c.args.domain.now in let m = c.args.part.now in let t = c.requires.parts in let nf = c.requires.faultless in let others_are = c.in_ok-others.ensures ∙ ap cells_of c.in_ok-range_set.ensures in subst (λ n. AreNamed n c.deref-2.result.now) (sym (ap length others_are)) (subst (AreNamed (length (all_cells y.cells b.cells))) (sym c.deref-2.ensures.value) (images_named mp x a y b part m nf t)))))))
+    ((omega arith), ((omega arith), ((omega arith), ((let P = g.row.P in let mp = c.args.map.now in let x = c.args.x.now in let a = c.args.a.now in let y = c.args.y.now in let b = c.args.b.now in let part = c.args.domain.now in let m = c.args.part.now in let t = c.requires.parts in let nf = c.requires.faultless in let cells_are = c.in_ok-cells.ensures ∙ ap cells_of c.in_ok-domain_set.ensures in whole_pair (together x.cells a.cells) c.in_ok-cells.cells cells_are), ((let P = g.row.P in let mp = c.args.map.now in let x = c.args.x.now in let a = c.args.a.now in let y = c.args.y.now in let b = c.args.b.now in let part = c.args.domain.now in let m = c.args.part.now in let t = c.requires.parts in let nf = c.requires.faultless in let others_are = c.in_ok-others.ensures ∙ ap cells_of c.in_ok-range_set.ensures in whole_pair (together y.cells b.cells) c.in_ok-others.others others_are), (let P = g.row.P in let mp = c.args.map.now in let x = c.args.x.now in let a = c.args.a.now in let y = c.args.y.now in let b = c.args.b.now in let part = c.args.domain.now in let m = c.args.part.now in let t = c.requires.parts in let nf = c.requires.faultless in let others_are = c.in_ok-others.ensures ∙ ap cells_of c.in_ok-range_set.ensures in subst (λ n. AreNamed n c.deref-2.result.now) (sym (ap length others_are)) (subst (AreNamed (length (all_cells y.cells b.cells))) (sym c.deref-2.ensures.value) (images_named mp x a y b part m nf t))))))))
 
 pub test_cells-requires : goal.test_cells-requires
 test_cells-requires g c =
@@ -152,3 +152,20 @@ test_cells-requires g c =
 pub test_matrices-requires : goal.test_matrices-requires
 test_matrices-requires g c =
     ((omega arith), ((omega arith), ((omega arith), ((omega arith), ((let P = g.row.P in let mp = c.args.map.now in let x = c.args.x.now in let a = c.args.a.now in let y = c.args.y.now in let b = c.args.b.now in let part = c.args.domain.now in let m = c.args.part.now in let t = c.requires.parts in let nf = c.requires.faultless in let cells_are = c.in_ok-cells.ensures ∙ ap cells_of c.in_ok-domain_set.ensures in let others_are = c.in_ok-others.ensures ∙ ap cells_of c.in_ok-range_set.ensures in let read = subst (λ ys. AreRead P c.in_ok-others.others c.in_ok-target.target c.deref.result.now ys) (sym c.deref-3.ensures.value) c.in_ok-images.ensures in let row = row_witness mp x a y b part m nf t c.in_ok-sides.sides c.in_ok-domain_set.domain_set.cells c.in_ok-cells.cells c.in_ok-others.others c.deref-2.result.now c.in_ok-sides.ensures c.deref-2.ensures.value c.in_ok-domain_set.ensures cells_are others_are c.in_ok-others.others c.in_ok-target.target c.deref.result.now c.deref-3.result.now others_are c.in_ok-target.ensures.cells c.deref.ensures.value read in record { given = map_given mp x a y b; are = subst (λ n. IsRowWitness c.in_ok-sides.sides.domain c.in_ok-sides.sides.range c.in_ok-target.target c.deref-3.result.now n part m (map_given mp x a y b)) (sym c.requires.top) row }), (c.in_ok-second.ensures.few, (let P = g.row.P in let mp = c.args.map.now in let x = c.args.x.now in let a = c.args.a.now in let y = c.args.y.now in let b = c.args.b.now in let part = c.args.domain.now in let m = c.args.part.now in let t = c.requires.parts in let nf = c.requires.faultless in let cells_are = c.in_ok-cells.ensures ∙ ap cells_of c.in_ok-domain_set.ensures in let others_are = c.in_ok-others.ensures ∙ ap cells_of c.in_ok-range_set.ensures in let few = value_lines_few mp x a y b part m nf t c.in_ok-sides.sides c.in_ok-domain_set.domain_set.cells c.in_ok-cells.cells c.in_ok-others.others c.deref-2.result.now c.in_ok-sides.ensures c.deref-2.ensures.value c.in_ok-domain_set.ensures cells_are others_are c.requires.few c.requires.range_few in omega (arith, few, c.in_ok-second.ensures.next, c.in_ok-third.ensures.next, c.in_ok-fourth.ensures.next))))))))
+
+pub overflow_add-fourth : goal.overflow_add-fourth
+overflow_add-fourth g c =
+    let P = g.row.P in
+    let mp = c.args.map.now in
+    let x = c.args.x.now in
+    let a = c.args.a.now in
+    let y = c.args.y.now in
+    let b = c.args.b.now in
+    let part = c.args.domain.now in
+    let m = c.args.part.now in
+    let t = c.requires.parts in
+    let nf = c.requires.faultless in
+    let cells_are = c.in_ok-cells.ensures ∙ ap cells_of c.in_ok-domain_set.ensures in
+    let others_are = c.in_ok-others.ensures ∙ ap cells_of c.in_ok-range_set.ensures in
+    let few = value_lines_few mp x a y b part m nf t c.in_ok-sides.sides c.in_ok-domain_set.domain_set.cells c.in_ok-cells.cells c.in_ok-others.others c.deref-2.result.now c.in_ok-sides.ensures c.deref-2.ensures.value c.in_ok-domain_set.ensures cells_are others_are c.requires.few c.requires.range_few in
+    omega (arith, few, c.in_ok-second.ensures.next, c.in_ok-third.ensures.next, c.in_ok-fourth.ensures.next)

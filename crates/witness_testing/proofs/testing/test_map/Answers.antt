@@ -1,4 +1,4 @@
-use Rattle.std.proofs.Common.{◌≡◌, ◌∙◌, ap, sym, subst, length, map}
+use Rattle.std.proofs.Common.{arith, ◌≡◌, ◌∙◌, ap, sym, subst, length, map}
 use Rattle.field_mod.proofs.Table.{is_field}
 use Rattle.witness_types.specs.Answers.{IsClaimWith}
 use Rattle.witness_types.specs.Parts.{pair_tables}
@@ -16,4 +16,4 @@ returns-clause-ok g c =
 
 pub map_claim-requires : goal.map_claim-requires
 map_claim-requires g c =
-    ((omega arith), ((omega arith), (c.in_ok-test_lines.ensures.domain_few, (c.in_ok-test_lines.ensures.range_few, ((subst (λ n. AreSmall c.args.part.rows.items (map length (pair_tables n c.args.domain.now).cycles)) (sym c.map_dimension-top.ensures) (map_small (is_field g.row.P c.args.field.listed) c.args.map.now c.args.x.now c.args.a.now c.args.y.now c.args.b.now c.args.domain.now c.args.part c.requires.parts c.in_ok-test_lines.ensures.ok c.requires.few c.requires.range_few)), (subst (λ n. AreHigh c.args.part.rows.items (map length (pair_tables n c.args.part.range).cycles)) (sym c.map_dimension-top.ensures) (map_high (is_field g.row.P c.args.field.listed) c.args.map.now c.args.x.now c.args.a.now c.args.y.now c.args.b.now c.args.domain.now c.args.part c.requires.parts c.in_ok-test_lines.ensures.ok)))))))
+    ((omega arith), ((omega arith), ((omega arith), (c.in_ok-test_lines.ensures.domain_few, (c.in_ok-test_lines.ensures.range_few, ((subst (λ n. AreSmall c.args.part.rows.items (map length (pair_tables n c.args.domain.now).cycles)) (sym c.map_dimension-top.ensures) (map_small (is_field g.row.P c.args.field.listed) c.args.map.now c.args.x.now c.args.a.now c.args.y.now c.args.b.now c.args.domain.now c.args.part c.requires.parts c.in_ok-test_lines.ensures.ok c.requires.few c.requires.range_few)), (subst (λ n. AreHigh c.args.part.rows.items (map length (pair_tables n c.args.part.range).cycles)) (sym c.map_dimension-top.ensures) (map_high (is_field g.row.P c.args.field.listed) c.args.map.now c.args.x.now c.args.a.now c.args.y.now c.args.b.now c.args.domain.now c.args.part c.requires.parts c.in_ok-test_lines.ensures.ok))))))))
