@@ -5,12 +5,12 @@ ghost use Rattle.witness_rows.specs.Rows.{Agrees, RowsPassed, IsRowFault};
 use chain_lists::combined;
 use chains::Chain;
 use field_mod::Field;
-use leray_conley::Matrix;
+use matrix_rows::MatrixRows;
 use std::alloc::Global;
 use witness_types::{Law, WitnessFault};
 
 // Whether a row of a matrix has these values.
-fn agrees<const P: u16>(matrix: &Matrix<P>, row: u32, values: &Chain<P>) -> bool
+fn agrees<const P: u16>(matrix: &MatrixRows<P>, row: u32, values: &Chain<P>) -> bool
     requires { row < matrix.now.rows }
     ensures { IsTrue result ↔ Agrees matrix.now row values.now }
 {
@@ -30,7 +30,7 @@ fn agrees<const P: u16>(matrix: &Matrix<P>, row: u32, values: &Chain<P>) -> bool
 pub fn test_rows<const P: u16>(
     alloc: Global,
     field: Field<P>,
-    matrix: &Matrix<P>,
+    matrix: &MatrixRows<P>,
     rows: &[Chain<P>],
     cocycles: &[Chain<P>],
     line: u64,

@@ -15,7 +15,7 @@ use Rattle.witness_laws.specs.Inputs.{Given, all_cells}
 use Rattle.witness_laws.specs.Parts.{value_at, range_cells, nth, vertex_of}
 use Rattle.witness_laws.specs.Tables.{Tables, map_of, holds}
 use Rattle.witness_laws.proofs.Mapping.{vertex_inside}
-use Rattle.witness_types.specs.declared.part.MapPart.{MapPart}
+use Rattle.read_parts.specs.declared.parts.ReadMap.{ReadMap}
 use Rattle.witness_sections.specs.Outcomes.{AllHold, IsLineOutcome}
 use Rattle.witness_sections.specs.Readings.{AreRead, IsNamed}
 use Rattle.witness_sections.proofs.Lining.{meet_append, fails_front, fails_behind}
@@ -42,7 +42,7 @@ vertex_holds p G W i law _ = every law
     every laws.Commutes = tt
     every laws.Matrix = tt
 
-module _ {p : ℕ} (s : MapSides p) (m : List Naming) (set : List (List Factor)) (part : MapPart p) (i : ℕ) (li : i < length s.domain) where
+module _ {p : ℕ} (s : MapSides p) (m : List Naming) (set : List (List Factor)) (part : ReadMap p) (i : ℕ) (li : i < length s.domain) where
   -- what is found of the value at the cell
   module _ (V : List (List Factor)) (K : ChainComplex) (hs chains : List (List (ℕ × ℕ))) (v n : ℕ) (is_value : (G : Given) (W : Tables) → AreSidesOf s m set part G W → V ≡ value_at G i) (complex : IsComplexOf p V K)
       (read : AreRead p s.range V chains hs) (chains_are : chains ≡ get_or (map (λ u. u.items) part.contractions.items) i []) (number : n ≡ get_or part.vertices.items i 0)
@@ -103,7 +103,7 @@ module _ {p : ℕ} (s : MapSides p) (m : List Naming) (set : List (List Factor))
 
 -- ---- what the part says of a cell
 
-module _ {p : ℕ} (s : MapSides p) (m : List Naming) (set : List (List Factor)) (part : MapPart p) (G : Given) (W : Tables) (w : AreSidesOf s m set part G W) (i : ℕ) (li : i < length s.domain) where
+module _ {p : ℕ} (s : MapSides p) (m : List Naming) (set : List (List Factor)) (part : ReadMap p) (G : Given) (W : Tables) (w : AreSidesOf s m set part G W) (i : ℕ) (li : i < length s.domain) where
   in_domain : i < length (all_cells G.x G.a)
   in_domain = subst (λ (ds : List (List Factor)). i < length ds) w.domain li
 

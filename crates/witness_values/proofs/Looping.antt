@@ -8,7 +8,7 @@ use Rattle.witness_laws.specs.declared.law.WitnessFault.TheVariants.{At, NoMemor
 use Rattle.witness_laws.specs.Lines.{each}
 use Rattle.witness_laws.specs.Inputs.{Given}
 use Rattle.witness_laws.specs.Tables.{Tables, map_of, holds}
-use Rattle.witness_types.specs.declared.part.MapPart.{MapPart}
+use Rattle.read_parts.specs.declared.parts.ReadMap.{ReadMap}
 use Rattle.witness_sections.specs.Outcomes.{ArePassed}
 use Rattle.witness_sections.proofs.Lining.{meet_more, fails_in_each, length_more}
 use Rattle.witness_values.specs.declared.cells.MapSides.{MapSides}
@@ -18,7 +18,7 @@ total_next : (n : ℕ) (f : ℕ → ℕ) → total (suc n) f ≡ total n f + f n
 total_next zero f = omega arith
 total_next (suc n) f = let e = total_next n (λ i. f (suc i)) in omega (arith, e)
 
-pub count_next : {p : ℕ} (part : MapPart p) (n line next behind : ℕ) → next ≡ line + cell_line_count part n → behind ≡ next + chains_at part n + 2 → behind ≡ line + cell_line_count part (n + 1)
+pub count_next : {p : ℕ} (part : ReadMap p) (n line next behind : ℕ) → next ≡ line + cell_line_count part n → behind ≡ next + chains_at part n + 2 → behind ≡ line + cell_line_count part (n + 1)
 count_next part n line next behind e f =
     let a = total_next n (λ i. chains_at part i + 2) in
     let b : cell_line_count part (n + 1) ≡ cell_line_count part (suc n) = ap (cell_line_count part) (let g : n + 1 ≡ suc n = omega arith in g) in
@@ -29,10 +29,10 @@ total_below k zero f l = absurd (omega (arith, l))
 total_below zero (suc n) f l = omega arith
 total_below (suc k) (suc n) f l = let e = total_below k n (λ i. f (suc i)) (omega (arith, l)) in omega (arith, e)
 
-pub count_room : {p : ℕ} (part : MapPart p) (k n line next : ℕ) → k < n → next ≡ line + cell_line_count part k → next + chains_at part k + 2 ≤ line + cell_line_count part n
+pub count_room : {p : ℕ} (part : ReadMap p) (k n line next : ℕ) → k < n → next ≡ line + cell_line_count part k → next + chains_at part k + 2 ≤ line + cell_line_count part n
 count_room part k n line next l e = let a = total_below k n (λ i. chains_at part i + 2) l in omega (arith, a, e)
 
-module _ {p : ℕ} (s : MapSides p) (m : List Naming) (set : List (List Factor)) (part : MapPart p) where
+module _ {p : ℕ} (s : MapSides p) (m : List Naming) (set : List (List Factor)) (part : ReadMap p) where
   -- the lines of the first cells
   abbrev pub FirstPassed : ℕ → ℕ → ℕ → Type 0
   FirstPassed n from next = (G : Given) (W : Tables) → AreSidesOf s m set part G W → ArePassed (holds p G W) (each n (λ i. cell_lines i (map_of W))) from next

@@ -22,7 +22,7 @@ use Rattle.witness_laws.specs.Inputs.{Given, target_of, all_cells}
 use Rattle.witness_laws.specs.Parts.{cell_of, value_at, range_cells}
 use Rattle.witness_laws.specs.Tables.{Tables}
 use Rattle.witness_laws.proofs.Mapping.{value_here, value_list}
-use Rattle.witness_types.specs.declared.part.MapPart.{MapPart}
+use Rattle.read_parts.specs.declared.parts.ReadMap.{ReadMap}
 use Rattle.witness_values.specs.declared.cells.MapSides.{MapSides}
 use Rattle.witness_values.specs.Cells.{AreSidesOf}
 
@@ -48,7 +48,7 @@ kept_sorted test xs s = record {
         let w = from-In xs (cell_at (filter test xs) i) (filter_In test xs (cell_at (filter test xs) i) (In-from (filter test xs) (cell_at (filter test xs) i) (Contains-get_or (filter test xs) i [] l))).0 in
         (w.0, w.1, get_or_default xs w.0 [] (cell_at (filter test xs) i) w.1 ∙ w.2)
 
-module _ {p : ℕ} (s : MapSides p) (m : List Naming) (set : List (List Factor)) (part : MapPart p) (G : Given) (W : Tables) (w : AreSidesOf s m set part G W) (i : ℕ) (li : i < length s.domain) where
+module _ {p : ℕ} (s : MapSides p) (m : List Naming) (set : List (List Factor)) (part : ReadMap p) (G : Given) (W : Tables) (w : AreSidesOf s m set part G W) (i : ℕ) (li : i < length s.domain) where
   inside : i < length (all_cells G.x G.a)
   inside = subst (λ (ds : List (List Factor)). i < length ds) w.domain li
 

@@ -10,7 +10,7 @@ use Rattle.witness_laws.specs.Lines.{Line, vertex, image, each}
 use Rattle.witness_laws.specs.Inputs.{Given, target_of, all_cells, IsWithoutFault}
 use Rattle.witness_laws.specs.Parts.{value_at, range_cells, NamesVertex}
 use Rattle.witness_laws.specs.Tables.{MapTables, Tables, map_of, holds}
-use Rattle.witness_types.specs.declared.part.MapPart.{MapPart}
+use Rattle.read_parts.specs.declared.parts.ReadMap.{ReadMap}
 use Rattle.witness_sections.specs.Outcomes.{ArePassed, IsFaultAmong}
 use Rattle.witness_sections.specs.Readings.{AreNamed}
 use Rattle.witness_values.specs.Images.{AreImagesOf}
@@ -21,7 +21,7 @@ use Rattle.witness_values.specs.declared.cells.MapSides.{MapSides}
 -- lines name cells of the kinds that
 -- they may name
 pub record AreSidesOf {p : ℕ} (s : MapSides p) (m : List Naming) (set : List (List Factor))
-    (part : MapPart p) (G : Given) (W : Tables) : Type 0 where
+    (part : ReadMap p) (G : Given) (W : Tables) : Type 0 where
   pub fault : IsWithoutFault G (target_of G)
   pub naming : m ≡ (target_of G).map
   pub cubes : set ≡ together G.x G.a
@@ -42,7 +42,7 @@ pub record AreSidesOf {p : ℕ} (s : MapSides p) (m : List Naming) (set : List (
 
 -- there is such a witness
 pub record HasWitness {p : ℕ} (s : MapSides p) (m : List Naming) (set : List (List Factor))
-    (part : MapPart p) : Type 0 where
+    (part : ReadMap p) : Type 0 where
   pub given : Given
   pub tables : Tables
   pub are : AreSidesOf s m set part given tables
@@ -52,13 +52,13 @@ abbrev pub cell_lines : ℕ → MapTables → List Line
 cell_lines i M = vertex i ∷ fillings_in i M ++ image i ∷ []
 
 -- what is told of lines, whatever witness has the sides
-abbrev pub CellsPassed : {p : ℕ} → MapSides p → List Naming → List (List Factor) → MapPart p
+abbrev pub CellsPassed : {p : ℕ} → MapSides p → List Naming → List (List Factor) → ReadMap p
     → (MapTables → List Line) → ℕ → ℕ → Type 0
 CellsPassed {p} s m set part lines from behind =
     (G : Given) (W : Tables) → AreSidesOf s m set part G W
     → ArePassed (holds p G W) (lines (map_of W)) from behind
 
-abbrev pub IsCellFaultOf : {p : ℕ} → MapSides p → List Naming → List (List Factor) → MapPart p
+abbrev pub IsCellFaultOf : {p : ℕ} → MapSides p → List Naming → List (List Factor) → ReadMap p
     → (MapTables → List Line) → ℕ → WitnessFault → Type 0
 IsCellFaultOf {p} s m set part lines from fault =
     (G : Given) (W : Tables) → AreSidesOf s m set part G W
@@ -69,9 +69,9 @@ abbrev pub all_cell_lines : MapTables → List Line
 all_cell_lines M = each (length M.images) (λ i. cell_lines i M)
 
 -- how many chains the value of the i-th cell has
-abbrev pub chains_at : {p : ℕ} → MapPart p → ℕ → ℕ
+abbrev pub chains_at : {p : ℕ} → ReadMap p → ℕ → ℕ
 chains_at part i = length (slice_index_or (map (λ v. v.items) part.contractions.items) i [])
 
 -- how many lines the first cells have
-abbrev pub cell_line_count : {p : ℕ} → MapPart p → ℕ → ℕ
+abbrev pub cell_line_count : {p : ℕ} → ReadMap p → ℕ → ℕ
 cell_line_count part n = total n (λ i. chains_at part i + 2)

@@ -16,19 +16,25 @@ use cube_maps::CubeMap;
 use cube_sets::CubeSet;
 use field_mod::Field;
 use map_checks::value_at;
+use read_parts::ReadMap;
 use std::alloc::{AllocError, Global};
 use witness_sections::{cell_of, read_chains};
-use witness_types::{MapPart, WitnessFault};
+use witness_types::WitnessFault;
 
 /// The cells of the domain and of the range of a map with their complexes, and the images of the
 /// cells by the numbers of the cells of the range from 0 on.
 #[derive(Drop)]
 pub struct MapSides<const P: u16> {
-    pub(crate) domain: Numbered,
-    pub(crate) range: Numbered,
-    pub(crate) domain_complex: Complex<P>,
-    pub(crate) range_complex: Complex<P>,
-    pub(crate) images: Vec<Chain<P>>,
+    /// The cells of the domain.
+    pub domain: Numbered,
+    /// And those of the range.
+    pub range: Numbered,
+    /// The complex of the domain.
+    pub domain_complex: Complex<P>,
+    /// And that of the range.
+    pub range_complex: Complex<P>,
+    /// The image of each cell of the domain.
+    pub images: Vec<Chain<P>>,
 }
 
 // The value of the map at a cell of the domain.
@@ -37,7 +43,7 @@ fn value_of<const P: u16>(
     map: &CubeMap,
     set: &CubeSet,
     sides: &MapSides<P>,
-    part: &MapPart<P>,
+    part: &ReadMap<P>,
     cell: u32,
 ) -> Result<Numbered, AllocError>
     requires cell { cell < length sides.now.domain }
@@ -73,7 +79,7 @@ fn test_cell<const P: u16>(
     map: &CubeMap,
     set: &CubeSet,
     sides: &MapSides<P>,
-    part: &MapPart<P>,
+    part: &ReadMap<P>,
     cell: u32,
     line: u64,
 ) -> Result<u64, WitnessFault>
@@ -118,7 +124,7 @@ pub fn test_cells<const P: u16>(
     map: &CubeMap,
     set: &CubeSet,
     sides: &MapSides<P>,
-    part: &MapPart<P>,
+    part: &ReadMap<P>,
     line: u64,
 ) -> Result<u64, WitnessFault>
     requires witness { HasWitness sides.now map.now.named set.now.cells part.now }

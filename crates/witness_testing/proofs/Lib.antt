@@ -1,0 +1,11 @@
+pub mod Runs
+pub mod Lists
+pub mod Named
+pub mod Sided
+pub mod Rows
+pub mod Small
+pub mod Claiming
+pub mod Values
+pub mod Whole
+pub mod Tested
+pub mod Cases

@@ -1,0 +1,5 @@
+pub mod Given
+pub mod Testing
+pub mod Sides
+pub mod Claims
+pub mod Mapped
