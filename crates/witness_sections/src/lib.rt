@@ -11,6 +11,6 @@ mod section;
 mod tests;
 
 pub use pair::test_section;
-pub use reading::{cell_of, read_chain, read_chains};
+pub use reading::{cell_of, cocycles_beside, cycles_beside, read_chain, read_chains};
 pub use section::{Degree, Section, section_of};
 pub use tests::is_sum;

@@ -63,7 +63,7 @@ pub fn read_chains<const P: u16>(
 }
 
 /// The cycles of one degree.
-pub(crate) fn cycles_beside<const P: u16>(
+pub fn cycles_beside<const P: u16>(
     alloc: Global,
     field: Field<P>,
     cells: &Numbered,
@@ -86,7 +86,7 @@ pub(crate) fn cycles_beside<const P: u16>(
 }
 
 /// The cocycles of one degree, where each has that of the cycle at its place.
-pub(crate) fn cocycles_beside<const P: u16>(
+pub fn cocycles_beside<const P: u16>(
     alloc: Global,
     field: Field<P>,
     cells: &Numbered,

@@ -37,7 +37,7 @@ module _ {p : ℕ} (x a : List (List Factor)) (top : ℕ) (part : PairPart p) (s
   pub cycles_few : cycle_count s.degrees.items ≤ length part.cycles.items
   cycles_few =
       let a = count_is s.degrees.items (λ k. length (beside k ds zs))
-          (λ k d l. (w.degrees k d (let c = w.count in omega (arith, c, l))).cycles.count ∙ ap length (each_at (suc top) (λ j. beside j ds zs) k [] (let e = degrees in omega (arith, e, l)))) in
+      (λ k d l. (w.degrees k d (let c = w.count in omega (arith, c, l))).cycles.count ∙ ap length (each_at (suc top) (λ j. beside j ds zs) k [] (let e = degrees in omega (arith, e, l)))) in
       let b = beside_total (length s.degrees.items) ds zs in
       let c = length-map part.cycles.items (λ z. z.1) in
       omega (arith, a, b, c)

@@ -40,13 +40,7 @@ pub(crate) fn pair_dimension(x: &CubeSet, a: &CubeSet) -> u8
 }
 
 /// The dimension of a map and of the pairs between which it goes.
-pub(crate) fn map_dimension(
-    map: &CubeMap,
-    x: &CubeSet,
-    a: &CubeSet,
-    y: &CubeSet,
-    b: &CubeSet,
-) -> u8
+pub(crate) fn map_dimension(map: &CubeMap, x: &CubeSet, a: &CubeSet, y: &CubeSet, b: &CubeSet) -> u8
     ensures { result ≡ first_known (map.now.dimension ∷ x.now.dimension ∷ a.now.dimension
         ∷ y.now.dimension ∷ b.now.dimension ∷ []) }
 {

@@ -2,7 +2,6 @@
 //! witness that meets them.
 #![tactic(auto)]
 
-mod beside;
 mod cells;
 mod claims;
 mod matrices;

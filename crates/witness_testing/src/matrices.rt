@@ -3,14 +3,13 @@ ghost use Rattle.std.specs.Prelude.{◌≡◌, ◌+◌, ◌<◌, ◌≤◌, ◌^
 ghost use Rattle.witness_testing.specs.Sides.{HasRowWitness, RowLinesPassed, IsRowLineFault};
 ghost use Rattle.witness_testing.specs.Sides.{lines_in, all_rows};
 
-use crate::beside::{cocycles_beside, cycles_beside};
 use cell_complex::Numbered;
 use chains::Chain;
 use field_mod::Field;
 use read_parts::ReadMap;
 use std::alloc::Global;
 use witness_rows::{products, test_rows};
-
+use witness_sections::{cocycles_beside, cycles_beside};
 use witness_types::{PairPart, WitnessFault};
 
 // The lines of the matrix of one degree: the number of the line behind them, or the first that is

@@ -122,7 +122,17 @@ fn test_lines<const P: u16>(
     let relative = kept(alloc, x, a)?;
     let target = kept(alloc, y, b)?;
     let second = test_side(alloc, field, x, a, &cells, &relative, domain, top, FIRST)?;
-    let third = test_side(alloc, field, y, b, &others, &target, &part.range, top, second)?;
+    let third = test_side(
+        alloc,
+        field,
+        y,
+        b,
+        &others,
+        &target,
+        &part.range,
+        top,
+        second,
+    )?;
     let images = read_chains(alloc, field, &others, &target, &part.images)?;
     let sides = sides_of(alloc, field, cells, others, &part.images)?;
     let fourth = test_cells(alloc, field, map, &domain_set, &sides, part, third + 1)?;

@@ -4,7 +4,6 @@ use Rattle.witness_testing.specs.Claims.{AreSmall, AreMadeOf}
 use Rattle.witness_testing.proofs.Claiming.{claimed}
 use Rattle.witness_testing.proofs.claims.map_claim.Goals as goal
 
-
 pub returns : goal.returns
 returns g c =
     let dims = map length (pair_tables c.args.top c.args.part.now).cycles in

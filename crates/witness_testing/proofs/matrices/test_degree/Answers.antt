@@ -43,7 +43,7 @@ test_rows-requires g c =
     let t = c.index-table.result.now in
     let cs = c.in_ok-cocycles.cocycles.items in
     let rc = subst (λ ys. AreRead g.row.P c.args.range.now c.args.kept.now (beside k (degrees_of ys) m.range.cocycles.items) cs) c.deref-3.ensures.value
-        (subst (λ ys. AreRead g.row.P c.args.range.now c.args.kept.now (beside k (degrees_of c.deref-3.result.now) ys) cs) c.deref-4.ensures.value c.in_ok-cocycles.ensures) in
+    (subst (λ ys. AreRead g.row.P c.args.range.now c.args.kept.now (beside k (degrees_of c.deref-3.result.now) ys) cs) c.deref-4.ensures.value c.in_ok-cocycles.ensures) in
     let a = cocycles_many c.args.domain.now c.args.range.now c.args.kept.now c.args.images.now c.args.top c.args.part.now m k c.requires.degree t c.index-table.ensures c.requires.witness.given c.requires.witness.are cs rc in
     let b = ap length c.deref-6.ensures.value in
     ((omega arith), ((omega arith), ((omega arith), (omega (arith, a, b), omega (arith, c.requires.room, c.rows.ensures.value, c.rows.type_inv)))))
@@ -63,7 +63,7 @@ returns-in_err-next-clause-err g c =
     let cs = c.in_ok-cocycles.cocycles.items in
     let rz = subst (λ ys. AreRead P D D (beside k (degrees_of ys) (map (λ z. z.1) ys)) zd) c.deref.ensures.value c.in_ok-cycles.ensures in
     let rc = subst (λ ys. AreRead P R K (beside k (degrees_of ys) m.range.cocycles.items) cs) c.deref-3.ensures.value
-        (subst (λ ys. AreRead P R K (beside k (degrees_of c.deref-3.result.now) ys) cs) c.deref-4.ensures.value c.in_ok-cocycles.ensures) in
+    (subst (λ ys. AreRead P R K (beside k (degrees_of c.deref-3.result.now) ys) cs) c.deref-4.ensures.value c.in_ok-cocycles.ensures) in
     let products = subst (λ ys. AreProducts P c.len.result us ys rows) c.deref-2.ensures.value c.in_ok-rows.ensures.value in
     let some : 0 < t.rows = omega (arith, c.rows.ensures.value, c.if-rows-eq0.false) in
     let o = c.in_ok-cycles.cycles.ok.0 in
@@ -89,7 +89,7 @@ returns-clause-ok g c =
     let cs = c.in_ok-cocycles.cocycles.items in
     let rz = subst (λ ys. AreRead P D D (beside k (degrees_of ys) (map (λ z. z.1) ys)) zd) c.deref.ensures.value c.in_ok-cycles.ensures in
     let rc = subst (λ ys. AreRead P R K (beside k (degrees_of ys) m.range.cocycles.items) cs) c.deref-3.ensures.value
-        (subst (λ ys. AreRead P R K (beside k (degrees_of c.deref-3.result.now) ys) cs) c.deref-4.ensures.value c.in_ok-cocycles.ensures) in
+    (subst (λ ys. AreRead P R K (beside k (degrees_of c.deref-3.result.now) ys) cs) c.deref-4.ensures.value c.in_ok-cocycles.ensures) in
     let products = subst (λ ys. AreProducts P c.len.result us ys rows) c.deref-2.ensures.value c.in_ok-rows.ensures.value in
     let some : 0 < t.rows = omega (arith, c.rows.ensures.value, c.if-rows-eq0.false) in
     let o = c.in_ok-cycles.cycles.ok.0 in

@@ -3,8 +3,6 @@ use Rattle.std.proofs.lemmas.Result.{err_from_is_err_and}
 use Rattle.witness_testing.proofs.Sided.{cycles_few, lines_few, side_passed, side_fault}
 use Rattle.witness_testing.proofs.sides.test_side.Goals as goal
 
-
-
 pub returns-in_err-next-clause-err : goal.returns-in_err-next-clause-err
 returns-in_err-next-clause-err g c =
     let p = err_from_is_err_and c.from_residual-in_err-next.result c.from_residual-in_err-next.ensures.1 in

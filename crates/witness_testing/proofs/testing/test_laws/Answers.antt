@@ -8,9 +8,6 @@ use Rattle.witness_testing.specs.Testing.{IsTested, IsTestFault}
 use Rattle.witness_testing.proofs.Cases.{pair_alone, pair_testable, pair_tested_back, pair_fault_back, map_there, map_testable, map_tested_back, map_fault_back}
 use Rattle.witness_testing.proofs.testing.test_laws.Goals as goal
 
-
-
-
 pub returns-in-Pair-clause-ok : goal.returns-in-Pair-clause-ok
 returns-in-Pair-clause-ok g c =
     let G = given_of c.args.input.now in
@@ -29,12 +26,6 @@ returns-in-Pair-clause-err g c =
     let e = ap given_of c.in-Pair.is in
     let f = pair_alone G c.args.parts x a e c.requires.parts in
     IfErr-weaker c.test_pair.result (IsTestFault (tables_format P (pair_given x a)) (parts_value (pair_given x a) (pair_parts c.args.parts.domain))) (IsTestFault (tables_format P G) (parts_value G c.args.parts)) (λ fault h. pair_fault_back G c.args.parts x a e f fault h) c.test_pair.ensures.err
-
-
-
-
-
-
 
 pub test_pair-requires : goal.test_pair-requires
 test_pair-requires g c =

@@ -11,10 +11,6 @@ use Rattle.witness_testing.proofs.Values.{whole_pair, images_named, sides_are, h
 use Rattle.witness_testing.proofs.Whole.{domain_readable, range_readable, domain_fault, range_fault, values_fault, matrices_fault, map_all}
 use Rattle.witness_testing.proofs.testing.test_lines.Goals as goal
 
-
-
-
-
 pub read_chains-requires : goal.read_chains-requires
 read_chains-requires g c =
     let P = g.row.P in
@@ -29,13 +25,6 @@ read_chains-requires g c =
     let nf = c.requires.faultless in
     let others_are = c.in_ok-others.ensures ∙ ap cells_of c.in_ok-range_set.ensures in
     ((omega arith), ((omega arith), subst (λ n. AreNamed n c.deref.result.now) (sym (ap length others_are)) (subst (AreNamed (length (all_cells y.cells b.cells))) (sym c.deref.ensures.value) (images_named mp x a y b part m nf t))))
-
-
-
-
-
-
-
 
 pub returns-in_err-second-clause-err : goal.returns-in_err-second-clause-err
 returns-in_err-second-clause-err g c =

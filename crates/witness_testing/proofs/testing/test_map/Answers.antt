@@ -7,8 +7,6 @@ use Rattle.witness_testing.specs.Claims.{AreSmall, AreHigh}
 use Rattle.witness_testing.proofs.Tested.{map_small, map_high, map_tested}
 use Rattle.witness_testing.proofs.testing.test_map.Goals as goal
 
-
-
 pub returns-clause-ok : goal.returns-clause-ok
 returns-clause-ok g c =
     map_tested (is_field g.row.P c.args.field.listed) c.args.map.now c.args.x.now c.args.a.now c.args.y.now c.args.b.now c.args.domain.now c.args.part c.requires.parts c.in_ok-test_lines.ensures.ok c.in_ok-claim.claim

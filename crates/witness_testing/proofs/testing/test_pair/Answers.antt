@@ -9,8 +9,6 @@ use Rattle.witness_testing.proofs.Whole.{pair_readable, pair_all, pair_fault}
 use Rattle.witness_testing.proofs.Tested.{pair_tested}
 use Rattle.witness_testing.proofs.testing.test_pair.Goals as goal
 
-
-
 pub returns-in_err-test_side-clause-err : goal.returns-in_err-test_side-clause-err
 returns-in_err-test_side-clause-err g c =
     let p = err_from_is_err_and c.from_residual-in_err-test_side.result c.from_residual-in_err-test_side.ensures.1 in
