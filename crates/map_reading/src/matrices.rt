@@ -46,7 +46,7 @@ fn keep_matrix<const P: u16>(
     matrices: &mut Vec<MatrixRows<P>>,
     matrix: MatrixRows<P>,
 ) -> Result<(), NoMemory>
-    ensures { OnOk result (matrices.new.items ≡ matrices.old.items ++ matrix ∷ []) }
+    ensures { OnOk result (matrices.new.items ≡ matrices.old.items ++ matrix.entry ∷ []) }
 {
     matrices.push(matrix)?;
     Ok(())

@@ -30,24 +30,24 @@ fn values_due<'a, const P: u16>(
     alloc: Global,
     field: Field<P>,
     bytes: &'a [u8],
-    map: &CubeMap,
+    cube_map: &CubeMap,
     domain: &CubeSet,
     range: &CubeSet,
 ) -> Result<(CellParts<P>, &'a [u8]), Stop>
-    requires named { AreNamed map.now.named domain.now.cells }
-    requires into { GoesInto map.now.named domain.now.cells range.now.cells }
+    requires named { AreNamed cube_map.now.named domain.now.cells }
+    requires into { GoesInto cube_map.now.named domain.now.cells range.now.cells }
     requires few { length (cells_of domain.now.cells) ≤ 4096 }
     requires few_range { length (cells_of range.now.cells) ≤ 4096 }
-    ensures ok { IfOk result (λ r. HasValues P map.now.named domain.now.cells range.now.cells
+    ensures ok { IfOk result (λ r. HasValues P cube_map.now.named domain.now.cells range.now.cells
         bytes.now r.0.vertices.items (map (λ v. v.items) r.0.contractions.items) r.0.images.items
         r.1.now) }
-    ensures err { IfErr result (IfTold (StopsValues P map.now.named domain.now.cells
+    ensures err { IfErr result (IfTold (StopsValues P cube_map.now.named domain.now.cells
         range.now.cells bytes.now)) }
 {
     let cells = faces(alloc, domain)?;
     let all = faces(alloc, range)?;
     match after(bytes, b"values\n") {
-        Some(behind) => match read_cells(alloc, field, behind, map, domain, range, &cells, &all) {
+        Some(behind) => match read_cells(alloc, field, behind, cube_map, domain, range, &cells, &all) {
             Ok(read) => Ok(read),
             Err(stop) => Err(stop),
         },
@@ -187,11 +187,11 @@ fn joined<const P: u16>(
     cells: CellParts<P>,
     rows: Vec<MatrixRows<P>>,
 ) -> ReadMap<P>
-    ensures range { result.range ≡ range }
-    ensures vertices { result.vertices ≡ cells.vertices }
-    ensures contractions { result.contractions ≡ cells.contractions }
-    ensures images { result.images ≡ cells.images }
-    ensures rows { result.rows ≡ rows }
+    ensures range { result.range ≡ range.entry }
+    ensures vertices { result.vertices ≡ cells.entry.vertices }
+    ensures contractions { result.contractions ≡ cells.entry.contractions }
+    ensures images { result.images ≡ cells.entry.images }
+    ensures rows { result.rows ≡ rows.entry }
 {
     ReadMap {
         range,
