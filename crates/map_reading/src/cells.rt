@@ -68,11 +68,11 @@ fn keep_cell<const P: u16>(
     part: CellPart<P>,
 ) -> Result<(), NoMemory>
     ensures vertices { OnOk result (parts.new.vertices.items
-        ≡ parts.old.vertices.items ++ part.vertex ∷ []) }
+        ≡ parts.old.vertices.items ++ part.entry.vertex ∷ []) }
     ensures fillings { OnOk result (map (λ v. v.items) parts.new.contractions.items
-        ≡ map (λ v. v.items) parts.old.contractions.items ++ part.contraction.items ∷ []) }
+        ≡ map (λ v. v.items) parts.old.contractions.items ++ part.entry.contraction.items ∷ []) }
     ensures images { OnOk result (parts.new.images.items
-        ≡ parts.old.images.items ++ part.image ∷ []) }
+        ≡ parts.old.images.items ++ part.entry.image ∷ []) }
 {
     parts.vertices.push(part.vertex)?;
     parts.contractions.push(part.contraction)?;
