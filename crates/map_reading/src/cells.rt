@@ -1,6 +1,5 @@
 //! The lines of the values and images of all cells of the domain.
-ghost use Rattle.std.specs.Prelude.{◌≡◌, ◌++◌, ◌∷◌, [], ◌<◌, ◌≤◌, map, length, OnOk, IfOk, IfErr};
-ghost use Rattle.cube_sets.specs.Closures.{cells_of};
+ghost use Rattle.std.specs.Prelude.{◌≡◌, ◌++◌, ◌∷◌, [], ◌<◌, map, length, OnOk, IfOk, IfErr};
 ghost use Rattle.witness_reading.specs.Ends.{IfTold};
 ghost use Rattle.map_lines.specs.Cells.{AreSides, HasCellAt, StopsAtCell, HasAllCells, StopsInCells, all_kinds};
 

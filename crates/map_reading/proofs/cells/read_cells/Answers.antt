@@ -1,6 +1,5 @@
-use Rattle.std.proofs.Common.{◌≡◌, ◌<◌, ◌≤◌, ◌∷◌, ◌∙◌, ℕ, List, [], ap, arith, length, map, subst, sym}
+use Rattle.std.proofs.Common.{◌≡◌, ◌<◌, ◌∙◌, ℕ, List, [], ap, arith, length, map, subst, sym}
 use Rattle.elem_cubes.specs.Cells.{Factor}
-use Rattle.cube_sets.specs.Closures.{cells_of}
 use Rattle.cube_maps.specs.CubeMaps.{Naming}
 use Rattle.map_lines.specs.Cells.{AreSides, HasAllCells}
 use Rattle.map_lines.proofs.Growing.{AreCells, no_cells, one_more, cell_stops}

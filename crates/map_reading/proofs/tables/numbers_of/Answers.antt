@@ -1,4 +1,4 @@
-use Rattle.std.proofs.Common.{◌≡◌, ◌<◌, ◌∙◌, ℕ, List, [], suc, ap, arith, length, sym}
+use Rattle.std.proofs.Common.{◌<◌, ◌∙◌, ℕ, List, [], suc, ap, arith, length, sym}
 use Rattle.elem_cubes.specs.Cells.{Factor}
 use Rattle.cell_complex.specs.Numbering.{number_of}
 use Rattle.witness_writing.proofs.Filling.{found_at}
