@@ -1,6 +1,5 @@
 //! The lines of the values and images of all cells of the domain.
-ghost use Rattle.std.specs.Prelude.{◌≡◌, ◌++◌, ◌∷◌, [], ◌<◌, ◌≤◌, map, length, OnOk, IfOk, IfErr};
-ghost use Rattle.cube_sets.specs.Closures.{cells_of};
+ghost use Rattle.std.specs.Prelude.{◌≡◌, ◌++◌, ◌∷◌, [], ◌<◌, map, length, OnOk, IfOk, IfErr};
 ghost use Rattle.witness_reading.specs.Ends.{IfTold};
 ghost use Rattle.map_lines.specs.Cells.{AreSides, HasCellAt, StopsAtCell, HasAllCells, StopsInCells, all_kinds};
 
@@ -28,7 +27,7 @@ fn read_cell<'a, const P: u16>(
     alloc: Global,
     field: Field<P>,
     bytes: &'a [u8],
-    map: &CubeMap,
+    cube_map: &CubeMap,
     domain: &CubeSet,
     range: &CubeSet,
     cells: &Numbered,
@@ -36,15 +35,16 @@ fn read_cell<'a, const P: u16>(
     kinds: &[u8],
     place: u32,
 ) -> Result<(CellPart<P>, &'a [u8]), Stop>
-    requires sides { AreSides map.now.named domain.now.cells range.now.cells cells.now all.now }
+    requires sides { AreSides cube_map.now.named domain.now.cells range.now.cells cells.now
+        all.now }
     requires kinds { kinds.now ≡ all_kinds all.now }
     requires inside { place < length cells.now }
-    ensures ok { IfOk result (λ r. HasCellAt P map.now.named domain.now.cells range.now.cells place
-        bytes.now r.0.vertex r.0.contraction.items r.0.image r.1.now) }
-    ensures err { IfErr result (IfTold (StopsAtCell P map.now.named domain.now.cells
+    ensures ok { IfOk result (λ r. HasCellAt P cube_map.now.named domain.now.cells
+        range.now.cells place bytes.now r.0.vertex r.0.contraction.items r.0.image r.1.now) }
+    ensures err { IfErr result (IfTold (StopsAtCell P cube_map.now.named domain.now.cells
         range.now.cells place bytes.now)) }
 {
-    let value = value_of(alloc, map, domain, range, cells, place)?;
+    let value = value_of(alloc, cube_map, domain, range, cells, place)?;
     let numbers = numbers_of(alloc, all, &value)?;
     let wanted = kinds_over(alloc, &value)?;
     let table = kinds_in(alloc, all, &value, &numbers)?;
@@ -63,16 +63,13 @@ fn read_cell<'a, const P: u16>(
 }
 
 // The parts of one more cell.
-fn keep_cell<const P: u16>(
-    parts: &mut CellParts<P>,
-    part: CellPart<P>,
-) -> Result<(), NoMemory>
+fn keep_cell<const P: u16>(parts: &mut CellParts<P>, part: CellPart<P>) -> Result<(), NoMemory>
     ensures vertices { OnOk result (parts.new.vertices.items
-        ≡ parts.old.vertices.items ++ part.vertex ∷ []) }
+        ≡ parts.old.vertices.items ++ part.entry.vertex ∷ []) }
     ensures fillings { OnOk result (map (λ v. v.items) parts.new.contractions.items
-        ≡ map (λ v. v.items) parts.old.contractions.items ++ part.contraction.items ∷ []) }
+        ≡ map (λ v. v.items) parts.old.contractions.items ++ part.entry.contraction.items ∷ []) }
     ensures images { OnOk result (parts.new.images.items
-        ≡ parts.old.images.items ++ part.image ∷ []) }
+        ≡ parts.old.images.items ++ part.entry.image ∷ []) }
 {
     parts.vertices.push(part.vertex)?;
     parts.contractions.push(part.contraction)?;
@@ -85,17 +82,18 @@ pub(crate) fn read_cells<'a, const P: u16>(
     alloc: Global,
     field: Field<P>,
     bytes: &'a [u8],
-    map: &CubeMap,
+    cube_map: &CubeMap,
     domain: &CubeSet,
     range: &CubeSet,
     cells: &Numbered,
     all: &Numbered,
 ) -> Result<(CellParts<P>, &'a [u8]), Stop>
-    requires { AreSides map.now.named domain.now.cells range.now.cells cells.now all.now }
-    ensures ok { IfOk result (λ r. HasAllCells P map.now.named domain.now.cells range.now.cells
+    requires { AreSides cube_map.now.named domain.now.cells range.now.cells cells.now
+        all.now }
+    ensures ok { IfOk result (λ r. HasAllCells P cube_map.now.named domain.now.cells range.now.cells
         bytes.now r.0.vertices.items (map (λ v. v.items) r.0.contractions.items) r.0.images.items
         r.1.now) }
-    ensures err { IfErr result (IfTold (StopsInCells P map.now.named domain.now.cells
+    ensures err { IfErr result (IfTold (StopsInCells P cube_map.now.named domain.now.cells
         range.now.cells bytes.now)) }
 {
     let kinds = kinds_of_all(alloc, all)?;
@@ -107,7 +105,7 @@ pub(crate) fn read_cells<'a, const P: u16>(
     let mut rest = bytes;
     for place in 0..cells.len() {
         match read_cell(
-            alloc, field, rest, map, domain, range, cells, all, &kinds, place,
+            alloc, field, rest, cube_map, domain, range, cells, all, &kinds, place,
         ) {
             Ok((part, behind)) => {
                 keep_cell(&mut parts, part)?;

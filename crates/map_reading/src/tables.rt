@@ -6,7 +6,6 @@ ghost use Rattle.cube_sets.specs.Closures.{cells_of};
 ghost use Rattle.cell_complex.specs.Numbering.{number_of};
 ghost use Rattle.acyclic_values.specs.CarriedMaps.{GoesInto};
 ghost use Rattle.map_checks.specs.Faults.{AreNamed};
-
 ghost use Rattle.witness_reading.specs.Kinds.{kinds_where};
 ghost use Rattle.map_lines.specs.Cells.{value_in, all_kinds};
 
