@@ -1,24 +1,22 @@
 -- Each stage of the witness of a map, as it was read, or where it stops.
-use Rattle.std.proofs.Common.{◌≡◌, ℕ, suc, ◌+◌, ◌<◌, ◌≤◌, refl, sym, ap, ◌∙◌, arith, inl, inr, List, [], ◌∷◌, ◌++◌, length, get_or, take, map, subst}
+use Rattle.std.proofs.Common.{◌≡◌, ℕ, suc, ◌+◌, ◌<◌, ◌≤◌, sym, ap, ◌∙◌, inl, inr, List, ◌++◌, length, get_or, take, map, subst}
 use Rattle.std.proofs.lemmas.Bool.{eq-eqb, ne_eqb}
-use Rattle.std.proofs.lemmas.List.{take_more, take_all}
+use Rattle.std.proofs.lemmas.List.{take_more}
 use Rattle.std.specs.Prelude.{codes}
 use Rattle.elem_cubes.specs.Cells.{Factor}
 use Rattle.cube_maps.specs.CubeMaps.{Naming}
 use Rattle.acyclic_values.specs.CarriedMaps.{GoesInto}
 use Rattle.cube_sets.specs.Closures.{cells_of}
 use Rattle.leray_conley.specs.Tables.{Table}
-use Rattle.map_checks.specs.Faults.{AreNamed, HasNoSetFault, together}
+use Rattle.map_checks.specs.Faults.{AreNamed, together}
 use Rattle.witness_laws.specs.Inputs.{Given, target_of}
-use Rattle.witness_laws.specs.declared.law.Law.TheVariants as laws
 use Rattle.witness_runs.specs.declared.miss.Stop.{Stop}
 use Rattle.witness_runs.specs.declared.miss.Stop.TheVariants as stops
-use Rattle.witness_runs.specs.Rows.{HasRows}
 use Rattle.witness_types.specs.declared.part.PairPart.{PairPart}
 use Rattle.read_parts.specs.declared.parts.ReadMap.{ReadMap}
 use Rattle.witness_reading.specs.Ends.{StopsEnd, IfTold}
 use Rattle.map_lines.specs.Cells.{AreSides, StopsInCells}
-use Rattle.map_lines.specs.Matrices.{size_in, row_lines, HasMatrix, HasAllMatrices, StopsInMatrices}
+use Rattle.map_lines.specs.Matrices.{size_in, HasAllMatrices, StopsInMatrices}
 use Rattle.map_lines.specs.Whole.{HasValues, StopsValues, HasEnd, StopsMatrixPart, HasPart, StopsPart, HasPairs, StopsPairs, IsWholeMap, StopsMap}
 use Rattle.map_lines.proofs.Growing.{counts_one, counts_none, AreMatricesRead}
 

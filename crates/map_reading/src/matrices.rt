@@ -1,6 +1,6 @@
 //! The matrices of all degrees.
-ghost use Rattle.std.specs.Prelude.{◌≡◌, ◌++◌, ◌∷◌, [], ◌<◌, ◌≤◌, length, OnOk, IfOk, IfErr, IfSome};
-ghost use Rattle.witness_runs.specs.Rows.{HasRows, StopsRows};
+ghost use Rattle.std.specs.Prelude.{◌≡◌, ◌++◌, ◌∷◌, [], ◌<◌, OnOk, IfOk, IfErr, IfSome};
+ghost use Rattle.witness_runs.specs.Rows.{StopsRows};
 ghost use Rattle.witness_reading.specs.Ends.{IfTold};
 ghost use Rattle.map_lines.specs.Matrices.{size_in, row_lines, HasMatrix, HasAllMatrices, StopsInMatrices};
 

@@ -1,5 +1,5 @@
 //! The witness of a map behind its header.
-ghost use Rattle.std.specs.Prelude.{◌≡◌, ◌≤◌, ◌<◌, true, codes, map, length, IfOk, IfErr};
+ghost use Rattle.std.specs.Prelude.{◌≡◌, ◌≤◌, ◌<◌, true, map, length, IfOk, IfErr};
 ghost use Rattle.cube_sets.specs.Closures.{cells_of};
 ghost use Rattle.cube_sets.specs.Sets.{dimensions_agree};
 ghost use Rattle.acyclic_values.specs.CarriedMaps.{GoesInto};

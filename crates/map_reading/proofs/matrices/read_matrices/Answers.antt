@@ -1,4 +1,4 @@
-use Rattle.std.proofs.Common.{◌≡◌, ℕ, ◌+◌, suc, List, arith, subst, sym}
+use Rattle.std.proofs.Common.{List, arith, subst, sym}
 use Rattle.leray_conley.specs.Tables.{Table}
 use Rattle.witness_runs.specs.Rows.{StopsRows}
 use Rattle.map_lines.specs.Matrices.{size_in, row_lines, HasMatrix}

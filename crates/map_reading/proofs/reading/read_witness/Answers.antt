@@ -1,8 +1,7 @@
-use Rattle.std.proofs.Common.{subst, sym, arith}
+use Rattle.std.proofs.Common.{subst, sym}
 use Rattle.std.specs.Prelude.{IfOk, IfErr}
-use Rattle.field_mod.proofs.Table.{two_le}
 use Rattle.witness_types.specs.Headers.{body_of}
-use Rattle.witness_types.specs.Inputs.{given_of, IsWitnessInput, IsWithinTables}
+use Rattle.witness_types.specs.Inputs.{given_of}
 use Rattle.witness_types.specs.declared.input.Input.{Input}
 use Rattle.witness_reading.specs.Reading.{IsRead, IsReadFault}
 use Rattle.map_reading.proofs.reading.read_witness.Goals as goal

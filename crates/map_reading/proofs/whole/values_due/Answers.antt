@@ -1,4 +1,4 @@
-use Rattle.map_reading.proofs.Stages.{values_stop, sides}
+use Rattle.map_reading.proofs.Stages.{values_stop}
 use Rattle.map_reading.proofs.whole.values_due.Goals as goal
 
 pub returns-in-Ok-clause-ok : goal.returns-in-Ok-clause-ok
