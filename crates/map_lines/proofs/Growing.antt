@@ -1,11 +1,10 @@
 -- What is read of cells and of matrices, one more at a time.
-use Rattle.std.proofs.Common.{◌≡◌, ℕ, zero, suc, ◌+◌, ◌*◌, ◌<◌, ◌≤◌, refl, sym, ap, ◌∙◌, arith, ⊎_elim, List, [], ◌∷◌, ◌++◌, length, get_or, map, cond, subst, Bool, true, false}
+use Rattle.std.proofs.Common.{◌≡◌, ℕ, zero, suc, ◌+◌, ◌*◌, ◌<◌, refl, sym, ap, ◌∙◌, arith, ⊎_elim, List, [], ◌∷◌, ◌++◌, length, get_or, map, cond, subst, Bool, true, false}
 use Rattle.std.proofs.lemmas.Bool.{cases_Bool, eqb-true}
 use Rattle.std.proofs.lemmas.List.{length-append}
 use Rattle.std.proofs.Math.Nat.{zero-mul, suc-mul}
 use Rattle.std.specs.Prelude.{◌==◌}
 use Rattle.elem_cubes.specs.Cells.{Factor, dimension_of}
-use Rattle.elem_cubes.specs.Laws.{cell_at}
 use Rattle.cube_sets.specs.Closures.{cells_of}
 use Rattle.cell_complex.specs.Numbering.{number_of}
 use Rattle.cube_maps.specs.CubeMaps.{Naming}

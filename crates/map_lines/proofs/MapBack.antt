@@ -1,11 +1,11 @@
 -- What was read of a map, or stands in a list of the form, as tables: they fit, and have these lines.
-use Rattle.std.proofs.Common.{◌≡◌, ℕ, suc, ◌+◌, ◌<◌, ◌≤◌, refl, sym, ap, ◌∙◌, arith, List, [], ◌∷◌, ◌++◌, length, get_or, map, subst, None, Some}
+use Rattle.std.proofs.Common.{◌≡◌, ℕ, suc, ◌<◌, refl, sym, ap, ◌∙◌, arith, List, [], ◌∷◌, ◌++◌, length, get_or, map, subst, None, Some}
 use Rattle.std.proofs.lemmas.List.{length-map}
 use Rattle.std.specs.Prelude.{Option, codes}
 use Rattle.elem_cubes.specs.Cells.{Factor}
 use Rattle.cube_sets.specs.Closures.{cells_of}
 use Rattle.homology_basis.specs.Bases.{in_degree}
-use Rattle.witness_laws.specs.Lines.{Line, Side, domain, range}
+use Rattle.witness_laws.specs.Lines.{Side, domain, range}
 use Rattle.witness_laws.specs.Inputs.{Given, Target, target_in, target_of, x_of, a_of, relative_cells}
 use Rattle.witness_laws.specs.Parts.{AreTerms, AreMatrices, nth, value_at}
 use Rattle.witness_laws.specs.Tables.{Tables, PairTables, MapTables, IsTables, IsMapPart, IsMapTables, IsPairTables, pair_of, pair_lines, value_lines, matrix_lines}
@@ -24,7 +24,7 @@ use Rattle.map_lines.specs.Matrices.{size_in}
 use Rattle.map_lines.proofs.Blocks.{blocks_items, AreBlocks}
 use Rattle.map_lines.proofs.Rows.{matrices_items, AreMatrixRows}
 use Rattle.map_lines.proofs.Values.{counts, block_at, values_items}
-use Rattle.map_lines.proofs.MatrixValues.{all_full, all_full_many, full_are, shown_back}
+use Rattle.map_lines.proofs.MatrixValues.{all_full, full_are, shown_back}
 use Rattle.map_lines.proofs.Sizes.{degree_size, size_above}
 use Rattle.map_lines.proofs.MapForm.{naming, cubes, images, lines_are, matrices_are}
 

@@ -1,23 +1,19 @@
 -- Version 1 for a map as a form: its values have these lists of lines, and each list is one of a value.
-use Rattle.std.proofs.Common.{◌≡◌, ℕ, suc, ◌+◌, ◌<◌, ◌≤◌, refl, sym, ap, ◌∙◌, arith, List, [], ◌∷◌, ◌++◌, length, get_or, map, append_assoc, subst, cond, Bool, true, false, None, Some}
-use Rattle.std.proofs.lemmas.List.{map-append, length-map}
-use Rattle.std.proofs.lemmas.Bool.{cases_Bool}
+use Rattle.std.proofs.Common.{◌≡◌, ℕ, suc, ◌+◌, refl, sym, ap, ◌∙◌, arith, List, [], ◌∷◌, ◌++◌, length, get_or, map, append_assoc, subst, cond, Bool, true, false, Some}
+use Rattle.std.proofs.lemmas.List.{map-append}
 use Rattle.std.specs.Prelude.{Option, codes, ◌==◌}
 use Rattle.elem_cubes.specs.Cells.{Factor}
 use Rattle.cube_sets.specs.Closures.{cells_of}
 use Rattle.cube_maps.specs.CubeMaps.{Naming}
 use Rattle.homology_basis.specs.Bases.{in_degree}
 use Rattle.map_checks.specs.Faults.{together}
-use Rattle.witness_laws.specs.Lines.{Line, domain, range, end, each, row, lines_of}
-use Rattle.witness_laws.specs.Formats.{texts_of}
-use Rattle.witness_laws.specs.Inputs.{Given, Target, target_of, relative_cells, all_cells}
-use Rattle.witness_laws.specs.Parts.{relative_number, AreTerms, AreMatrices, nth}
-use Rattle.witness_laws.specs.Tables.{Tables, PairTables, MapTables, map_in, map_of, pair_of, IsTables, IsMapPart, IsMapTables, IsPairTables, pair_lines, value_lines, matrix_lines, map_lines, lines_of_tables, tables_format}
+use Rattle.witness_laws.specs.Lines.{Line, domain, range, end, each, row}
+use Rattle.witness_laws.specs.Inputs.{Given, Target, target_of}
+use Rattle.witness_laws.specs.Tables.{Tables, MapTables, map_of, IsTables, IsMapTables, pair_lines, value_lines, matrix_lines, map_lines}
 use Rattle.witness_laws.proofs.Runs.{map_each, each_same}
-use Rattle.witness_reading.proofs.Forms.{Item, texts, Then}
-use Rattle.witness_reading.proofs.Faults.{IsForm}
+use Rattle.witness_reading.proofs.Forms.{Item, Then}
 use Rattle.witness_reading.proofs.Shapes.{word_item, IsWordItem}
-use Rattle.witness_reading.proofs.Items.{item_of_line, items_of, pair_kinds, texts_of_items, tables_form}
+use Rattle.witness_reading.proofs.Items.{item_of_line, items_of, pair_kinds}
 use Rattle.witness_reading.proofs.Sections.{Section}
 use Rattle.witness_reading.proofs.Flat.{each_of_list}
 use Rattle.witness_reading.proofs.Pairs.{head_line, cell_numbers, cell_kinds, section_form, flat_cycles}
@@ -26,7 +22,7 @@ use Rattle.map_lines.specs.Cells.{value_in}
 use Rattle.map_lines.specs.Matrices.{size_in}
 use Rattle.map_lines.proofs.Blocks.{Blocks, blocks_items, blocks_form, AreBlocks}
 use Rattle.map_lines.proofs.Rows.{row_item, row_items, Matrices, matrices_items, matrices_form, AreMatrixRows}
-use Rattle.map_lines.proofs.Values.{are_blocks, values_items, each_within}
+use Rattle.map_lines.proofs.Values.{are_blocks, values_items}
 use Rattle.map_lines.proofs.MatrixValues.{shown, all_shown, all_shown_many, items_by, shown_rows}
 use Rattle.map_lines.proofs.Sizes.{flat_size}
 
@@ -82,7 +78,6 @@ module _ (p : ℕ) (G : Given) (W : Tables) (T : Target) (is_target : G.target �
 
   -- the rows, degree by degree
   module _ (w : ℕ → ℕ) (wide : (k : ℕ) → w k ≡ length (in_degree W.domain.cycles k)) (many : length W.domain.cycles ≡ length M.matrices) where
-
     matrix_items : (k : ℕ) → map g (cond (length (in_degree W.domain.cycles k) == 0) [] (each (length (get_or M.matrices k [])) (λ r. row k r ∷ [])))
         ≡ row_items k (shown (w k) (get_or M.matrices k []))
     matrix_items k =
@@ -136,11 +131,12 @@ module _ (p : ℕ) (G : Given) (W : Tables) (T : Target) (is_target : G.target �
     matrix_form : MatrixPart p G cs ds (map g (matrix_lines W.domain M) ++ finish)
     matrix_form =
         let e : length W.domain.cycles ≡ length M.matrices = (let a = is.domain.degrees in let b = rows_many in omega arith) in
-        subst (λ (l : List Item). MatrixPart p G cs ds (l ++ finish)) (sym (matrices_are (size_in cs) wide_is e (size_in ds)))
-        (refl,
-        subst (λ (n : ℕ). Matrices p (size_in ds) (size_in cs) 0 n End (matrices_items 0 (all_shown (size_in ds) (size_in cs) 0 M.matrices) ++ finish))
-        (all_shown_many (size_in ds) (size_in cs) 0 M.matrices ∙ rows_many)
-        (matrices_form p (size_in ds) (size_in cs) 0 (all_shown (size_in ds) (size_in cs) 0 M.matrices) End finish rows_are (refl, tt)))
+        subst (λ (l : List Item). MatrixPart p G cs ds (l ++ finish)) (sym (matrices_are (size_in cs) wide_is e (size_in ds))) (
+          refl,
+          subst (λ (n : ℕ). Matrices p (size_in ds) (size_in cs) 0 n End (matrices_items 0 (all_shown (size_in ds) (size_in cs) 0 M.matrices) ++ finish))
+              (all_shown_many (size_in ds) (size_in cs) 0 M.matrices ∙ rows_many)
+              (matrices_form p (size_in ds) (size_in cs) 0 (all_shown (size_in ds) (size_in cs) 0 M.matrices) End finish rows_are (refl, tt)),
+        )
 
     blocks_are : AreBlocks p (naming p G) (cubes p G) (images p G) 0 M.vertices M.fillings M.images
     blocks_are = are_blocks p (naming p G) (cubes p G) (images p G) 0 M.vertices M.fillings M.images (of.values ∙ sym of.vertices) (of.images ∙ sym of.vertices)
@@ -150,11 +146,12 @@ module _ (p : ℕ) (G : Given) (W : Tables) (T : Target) (is_target : G.target �
     value_form : ValuePart p G cs ds (map g (value_lines M) ++ (map g (matrix_lines W.domain M) ++ finish))
     value_form =
         subst (λ (l : List Item). ValuePart p G cs ds (l ++ (map g (matrix_lines W.domain M) ++ finish)))
-        (sym (values_items p G W (of.vertices ∙ sym of.images) (of.values ∙ sym of.images) of.fillings))
-        (refl,
-        subst (λ (n : ℕ). Blocks p (naming p G) (cubes p G) (images p G) 0 n (MatrixPart p G cs ds)
-        (blocks_items p (naming p G) (cubes p G) (images p G) 0 M.vertices M.fillings M.images ++ (map g (matrix_lines W.domain M) ++ finish))) of.vertices
-        (blocks_form p (naming p G) (cubes p G) (images p G) 0 M.vertices M.fillings M.images (MatrixPart p G cs ds) (map g (matrix_lines W.domain M) ++ finish) blocks_are matrix_form))
+        (sym (values_items p G W (of.vertices ∙ sym of.images) (of.values ∙ sym of.images) of.fillings)) (
+          refl,
+          subst (λ (n : ℕ). Blocks p (naming p G) (cubes p G) (images p G) 0 n (MatrixPart p G cs ds)
+              (blocks_items p (naming p G) (cubes p G) (images p G) 0 M.vertices M.fillings M.images ++ (map g (matrix_lines W.domain M) ++ finish))) of.vertices
+              (blocks_form p (naming p G) (cubes p G) (images p G) 0 M.vertices M.fillings M.images (MatrixPart p G cs ds) (map g (matrix_lines W.domain M) ++ finish) blocks_are matrix_form),
+        )
 
     pub map_form : MapForm p G (items_of G W)
     map_form = subst (MapForm p G) (sym lines_are)

@@ -1,5 +1,5 @@
 -- A map's witness that was read: whole, or up to its first fault.
-use Rattle.std.proofs.Common.{◌≡◌, ℕ, suc, ◌+◌, ◌<◌, ◌≤◌, refl, sym, ap, ◌∙◌, arith, List, [], ◌∷◌, ◌++◌, length, get_or, map, append_assoc, subst, cond, ⊎_elim, None, Some}
+use Rattle.std.proofs.Common.{◌≡◌, ℕ, suc, ◌<◌, ◌≤◌, refl, sym, ap, ◌∙◌, arith, List, [], ◌∷◌, ◌++◌, length, map, subst, cond, ⊎_elim, None, Some}
 use Rattle.std.proofs.lemmas.List.{map-append, length-map}
 use Rattle.std.proofs.lemmas.Bool.{cases_Bool, eqb-true}
 use Rattle.std.specs.Prelude.{Option, codes, ◌==◌}
@@ -8,7 +8,7 @@ use Rattle.cube_sets.specs.Closures.{cells_of}
 use Rattle.witness_laws.specs.Lines.{Side, domain, range, lines_of, IsOneLine}
 use Rattle.witness_laws.specs.Formats.{HasValue, MeetsFirst, texts_of}
 use Rattle.witness_laws.specs.Inputs.{Given, Target, target_in, target_of, x_of, a_of, relative_cells}
-use Rattle.witness_laws.specs.Parts.{AreTerms, nth, relative_number}
+use Rattle.witness_laws.specs.Parts.{relative_number}
 use Rattle.witness_laws.specs.Tables.{Tables, MapTables, IsTables, IsMapPart, IsMapTables, map_in, map_of, tables_format}
 use Rattle.witness_laws.proofs.Runs.{length_singles}
 use Rattle.witness_laws.proofs.Texts.{texts_have_their_lines}
@@ -326,9 +326,11 @@ module _ (p : ℕ) (G : Given) (T : Target) (is_target : G.target ≡ Some T) (b
   all_are_named : AllNames whole_part
   all_are_named =
       section_named p G domain bytes part w.pairs.middle (side_one domain) w.pairs.first range_part
-      (section_named p G range w.pairs.middle m.range w.behind (side_one range) w.pairs.second value_part
-      (tt, all_names (blocks_items p (naming p G) (cubes p G) (images p G) 0 m.vertices.items fs m.images.items) matrix_part blocks.names
-      (tt, all_names (matrices_items 0 rows) finish (matrices_names 0 rows) (tt, tt))))
+      (section_named p G range w.pairs.middle m.range w.behind (side_one range) w.pairs.second value_part (
+        tt,
+        all_names (blocks_items p (naming p G) (cubes p G) (images p G) 0 m.vertices.items fs m.images.items) matrix_part blocks.names
+            (tt, all_names (matrices_items 0 rows) finish (matrices_names 0 rows) (tt, tt)),
+      ))
 
   items_are : items_of G W ≡ whole_part
   items_are = laid p G T is_target cd cr m.vertices.items fs m.images.items blocks.are w.values.cells.many rows rows_many rows_are

@@ -2,30 +2,27 @@
 use Rattle.std.proofs.Common.{◌≡◌, ℕ, suc, ◌+◌, ◌<◌, refl, sym, ap, ◌∙◌, arith, ⊎_elim, List, [], ◌∷◌, ◌++◌, length, get_or, Bool, true, subst}
 use Rattle.std.specs.Prelude.{codes}
 use Rattle.cube_sets.specs.Closures.{cells_of}
-use Rattle.witness_laws.specs.declared.law.Law.{Law}
-use Rattle.witness_laws.specs.declared.law.Law.TheVariants as laws
 use Rattle.witness_laws.specs.Lines.{domain, range, lines_of, IsOneLine}
 use Rattle.witness_laws.specs.Inputs.{Given, target_of}
 use Rattle.witness_laws.proofs.Texts.{texts_have_their_lines}
 use Rattle.witness_runs.specs.declared.miss.Stop.{Stop}
 use Rattle.witness_runs.specs.declared.miss.Stop.TheVariants as stops
 use Rattle.witness_types.specs.declared.part.PairPart.{PairPart}
-use Rattle.witness_reading.specs.Ends.{StopsEnd, IfTold}
-use Rattle.witness_reading.proofs.Forms.{Item, texts, Then, reads_line}
+use Rattle.witness_reading.specs.Ends.{IfTold}
+use Rattle.witness_reading.proofs.Forms.{Item, Then, reads_line}
 use Rattle.witness_reading.proofs.Stops.{text_here}
 use Rattle.witness_reading.proofs.Shapes.{word_item, IsWordItem, told_word, no_word_here}
-use Rattle.witness_reading.proofs.Cycling.{IsOver, FirstIsZ}
+use Rattle.witness_reading.proofs.Cycling.{IsOver}
 use Rattle.witness_reading.proofs.Places.{StopsAt, at_here, at_behind}
-use Rattle.witness_reading.proofs.Leaving.{Leaves}
 use Rattle.witness_reading.proofs.Items.{pair_kinds}
-use Rattle.witness_reading.proofs.Sections.{Section, section_step, pair_some}
+use Rattle.witness_reading.proofs.Sections.{section_step, pair_some}
 use Rattle.witness_reading.proofs.Parting.{LeavesBy, by_step, section_leaves}
-use Rattle.witness_reading.proofs.Pairs.{head_line, cell_numbers, cell_kinds}
+use Rattle.witness_reading.proofs.Pairs.{cell_numbers, cell_kinds}
 use Rattle.witness_reading.proofs.PairForm.{End}
-use Rattle.witness_reading.proofs.Ending.{end_leaves, end_over, end_fills, domain_line}
+use Rattle.witness_reading.proofs.Ending.{end_leaves, end_fills, domain_line}
 use Rattle.map_lines.specs.Cells.{StopsInCells}
 use Rattle.map_lines.specs.Matrices.{size_in, StopsInMatrices}
-use Rattle.map_lines.specs.Whole.{LacksLine, HasValues, StopsBehindValues, StopsValues, HasEnd, StopsBehindMatrix, StopsAtEnd, StopsMatrixPart, HasPairs, StopsInRange, StopsPairs, StopsInValues, StopsBehindAll, StopsMap}
+use Rattle.map_lines.specs.Whole.{LacksLine, HasValues, StopsBehindValues, StopsValues, StopsBehindMatrix, StopsAtEnd, StopsMatrixPart, HasPairs, StopsInRange, StopsPairs, StopsInValues, StopsBehindAll, StopsMap}
 use Rattle.map_lines.proofs.Blocks.{Blocks, blocks_some, blocks_step, blocks_leave}
 use Rattle.map_lines.proofs.Rows.{Matrices, matrices_some, matrices_step, matrices_leave}
 use Rattle.map_lines.proofs.MapForm.{naming, cubes, images, MatrixPart, ValuePart, RangePart, MapForm}

@@ -4,11 +4,9 @@ use Rattle.std.proofs.lemmas.Bool.{cases_Bool, cases_lt, eqb-true}
 use Rattle.std.proofs.lemmas.List.{get_or_past}
 use Rattle.std.proofs.Math.Nat.{zero-mul, suc-mul}
 use Rattle.std.specs.Prelude.{◌==◌}
-use Rattle.leray_conley.specs.Tables.{Table}
 use Rattle.witness_laws.specs.Lines.{each}
 use Rattle.witness_laws.specs.Parts.{AreMatrices}
 use Rattle.witness_laws.proofs.Runs.{each_same, length_singles}
-use Rattle.witness_types.specs.Rows.{row_of, rows_of}
 use Rattle.witness_scanning.specs.Terms.{AreBelow}
 use Rattle.witness_runs.specs.Rows.{AreRows, joined}
 use Rattle.witness_reading.proofs.Forms.{Item}

@@ -1,9 +1,7 @@
 -- The lines of matrices as a form: a run of rows for each degree.
-use Rattle.std.proofs.Common.{◌≡◌, ℕ, zero, suc, ◌+◌, ◌<◌, ◌≤◌, refl, sym, ap, ◌∙◌, arith, List, [], ◌∷◌, ◌++◌, length, get_or, map, drop, Bool, true, cond, append_assoc, subst}
-use Rattle.std.proofs.lemmas.List.{map-append, length-map, length-append, drop_all}
-use Rattle.std.specs.Prelude.{◌==◌}
+use Rattle.std.proofs.Common.{◌≡◌, ℕ, zero, suc, ◌+◌, ◌<◌, ◌≤◌, refl, sym, ap, ◌∙◌, arith, List, [], ◌∷◌, ◌++◌, length, get_or, map, drop, Bool, true, append_assoc, subst}
+use Rattle.std.proofs.lemmas.List.{map-append, length-map, drop_all}
 use Rattle.leray_conley.specs.Tables.{Table}
-use Rattle.witness_laws.specs.declared.law.Law.{Law}
 use Rattle.witness_laws.specs.declared.law.Law.TheVariants as laws
 use Rattle.witness_laws.specs.Lines.{row_line, lines_of, each}
 use Rattle.witness_laws.proofs.Telling.{lines_tell_their_parts}
@@ -13,8 +11,8 @@ use Rattle.witness_scanning.specs.Lines.{HasNoRowLine}
 use Rattle.witness_runs.specs.declared.miss.Stop.{Stop}
 use Rattle.witness_runs.specs.declared.miss.Stop.TheVariants as stops
 use Rattle.witness_runs.specs.Rows.{rows_text, AreRows, HasRows, StopsAt as RowsStopAt, StopsRows}
-use Rattle.witness_reading.proofs.Forms.{Item, texts, Reads, Then, Run, IsTold, AreRun, reads_run, run_some}
-use Rattle.witness_reading.proofs.Stops.{AllNames, all_names, BeginsWith, StopsText, text_here}
+use Rattle.witness_reading.proofs.Forms.{Item, texts, Reads, Run, IsTold, AreRun, reads_run, run_some}
+use Rattle.witness_reading.proofs.Stops.{AllNames, all_names, BeginsWith, text_here}
 use Rattle.witness_reading.proofs.Shapes.{in_front}
 use Rattle.witness_reading.proofs.Runs.{one_row, first_line}
 use Rattle.witness_reading.proofs.Places.{StopsAt, at_here, at_behind}
@@ -77,7 +75,6 @@ some_row : (p k width : ℕ) → 0 < p → ℕ → (z : Item) × IsRowItem p k w
 some_row p k width positive n = (row_item k (zeros width), record { entries = zeros width; many = length_singles width (λ i. 0); below = zeros_below p width positive; is = refl })
 
 module _ (p k width : ℕ) where
-
   -- the rows of a matrix
   abbrev pub RowRun : ℕ → (List Item → Type 0) → List Item → Type 0
   RowRun height N = Run (λ (_ : ℕ). IsRowItem p k width) (row_heads height) (λ _. N)

@@ -10,7 +10,6 @@ use Rattle.witness_reading.proofs.Flat.{flat_from}
 use Rattle.witness_reading.proofs.Degrees.{each_at, each_past}
 use Rattle.map_lines.specs.Matrices.{size_in}
 
-
 block_here : (k : ℕ) (xs : List (List (ℕ × ℕ))) (us : List (ℕ × List (ℕ × ℕ))) → size_in (map (λ x. (k, x)) xs ++ us) k ≡ length xs + size_in us k
 block_here k [] us = omega arith
 block_here k (x ∷ xs) us =

@@ -4,7 +4,6 @@ use Rattle.std.proofs.lemmas.List.{map-append}
 use Rattle.std.specs.Prelude.{codes}
 use Rattle.elem_cubes.specs.Cells.{Factor, dimension_of}
 use Rattle.elem_cubes.specs.Laws.{cell_at}
-use Rattle.cube_sets.specs.Closures.{cells_of}
 use Rattle.cube_maps.specs.CubeMaps.{Naming}
 use Rattle.map_checks.specs.Faults.{together}
 use Rattle.witness_laws.specs.Lines.{Line, vertex, filling, image as image_line, each}

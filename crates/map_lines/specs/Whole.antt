@@ -1,5 +1,5 @@
 -- The witness of a map behind its header: two sections, values, matrices, and the last line.
-use Rattle.std.specs.Prelude.{◌≡◌, ℕ, suc, ◌⊎◌, List, [], ◌∷◌, ◌++◌, map, length, codes, Some}
+use Rattle.std.specs.Prelude.{◌≡◌, ℕ, ◌⊎◌, List, [], ◌∷◌, ◌++◌, map, length, codes, Some}
 use Rattle.cube_maps.specs.CubeMaps.{Naming, Mapping}
 use Rattle.cube_sets.specs.Sets.{Members}
 use Rattle.elem_cubes.specs.Cells.{Factor}
