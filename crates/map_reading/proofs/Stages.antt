@@ -1,21 +1,20 @@
 -- Each stage of the witness of a map, as it was read, or where it stops.
-use Rattle.std.proofs.Common.{◌≡◌, ℕ, suc, ◌+◌, ◌<◌, ◌≤◌, sym, ap, ◌∙◌, inl, inr, List, ◌++◌, length, get_or, take, map, subst}
+use Rattle.std.proofs.Common.{◌≡◌, ℕ, suc, ◌+◌, ◌<◌, sym, ap, ◌∙◌, inl, inr, List, ◌++◌, length, get_or, take, map, subst}
 use Rattle.std.proofs.lemmas.Bool.{eq-eqb, ne_eqb}
 use Rattle.std.proofs.lemmas.List.{take_more}
 use Rattle.std.specs.Prelude.{codes}
 use Rattle.elem_cubes.specs.Cells.{Factor}
 use Rattle.cube_maps.specs.CubeMaps.{Naming}
 use Rattle.acyclic_values.specs.CarriedMaps.{GoesInto}
-use Rattle.cube_sets.specs.Closures.{cells_of}
 use Rattle.leray_conley.specs.Tables.{Table}
-use Rattle.map_checks.specs.Faults.{AreNamed, together}
+use Rattle.map_checks.specs.Faults.{together}
 use Rattle.witness_laws.specs.Inputs.{Given, target_of}
 use Rattle.witness_runs.specs.declared.miss.Stop.{Stop}
 use Rattle.witness_runs.specs.declared.miss.Stop.TheVariants as stops
 use Rattle.witness_types.specs.declared.part.PairPart.{PairPart}
 use Rattle.read_parts.specs.declared.parts.ReadMap.{ReadMap}
 use Rattle.witness_reading.specs.Ends.{StopsEnd, IfTold}
-use Rattle.map_lines.specs.Cells.{AreSides, StopsInCells}
+use Rattle.map_lines.specs.Cells.{StopsInCells}
 use Rattle.map_lines.specs.Matrices.{size_in, HasAllMatrices, StopsInMatrices}
 use Rattle.map_lines.specs.Whole.{HasValues, StopsValues, HasEnd, StopsMatrixPart, HasPart, StopsPart, HasPairs, StopsPairs, IsWholeMap, StopsMap}
 use Rattle.map_lines.proofs.Growing.{counts_one, counts_none, AreMatricesRead}
@@ -26,18 +25,6 @@ pub values_stop : (p : ℕ) (f : List Naming) (domain range : List (List Factor)
     → IfTold (StopsInCells p f domain range behind) stop → IfTold (StopsValues p f domain range bytes) stop
 values_stop p f domain range bytes behind (stops.At left law) e s = inr (record { behind = behind; split = e; here = s })
 values_stop p f domain range bytes behind stops.NoMemory e s = tt
-
--- the cells of the sets that are read over
-pub sides : (f : List Naming) (domain range cells all : List (List Factor)) → AreNamed f domain → GoesInto f domain range → length (cells_of domain) ≤ 4096
-    → length (cells_of range) ≤ 4096 → cells ≡ cells_of domain → all ≡ cells_of range → AreSides f domain range cells all
-sides f domain range cells all n i l m c a = record {
-  named = n;
-  into = i;
-  cells_are = c;
-  all_are = a;
-  few = subst (λ (k : List (List Factor)). length k ≤ 4096) (sym c) l;
-  few_range = subst (λ (k : List (List Factor)). length k ≤ 4096) (sym a) m;
-}
 
 -- ---- the matrices
 
