@@ -70,8 +70,7 @@ pub(crate) fn read_matrices<'a, const P: u16>(
     let mut matrices = Vec::new(alloc);
     let mut rest = bytes;
     for degree in 0..top + 1 {
-        let (Some(height), Some(width)) = (count_in(range, degree), count_in(domain, degree))
-        else {
+        let (Some(height), Some(width)) = (count_in(range, degree), count_in(domain, degree)) else {
             return Err(Stop::NoMemory);
         };
         match read_matrix(alloc, rest, degree, height, width) {

@@ -47,7 +47,9 @@ fn values_due<'a, const P: u16>(
     let cells = faces(alloc, domain)?;
     let all = faces(alloc, range)?;
     match after(bytes, b"values\n") {
-        Some(behind) => match read_cells(alloc, field, behind, cube_map, domain, range, &cells, &all) {
+        Some(behind) => match read_cells(
+            alloc, field, behind, cube_map, domain, range, &cells, &all,
+        ) {
             Ok(read) => Ok(read),
             Err(stop) => Err(stop),
         },
