@@ -1,0 +1,11 @@
+pub mod Blocks
+pub mod Rows
+pub mod Values
+pub mod MatrixValues
+pub mod Sizes
+pub mod MapForm
+pub mod MapBack
+pub mod MapStops
+pub mod KindTables
+pub mod Growing
+pub mod MapRead
