@@ -2,7 +2,7 @@
 use Rattle.std.specs.Prelude.{ℕ, List, [], Option, None, Some, unwrap_or}
 use Rattle.command_line.specs.declared.form.ToolName.{ToolName}
 use Rattle.command_line.specs.declared.form.ToolName.TheVariants as tools
-use Rattle.command_line.specs.Words.{Request, first, second, third, fourth}
+use Rattle.command_line.specs.Words.{Request, first, second, third, fourth, fifth, sixth}
 use Rattle.loading.specs.Jobs.{Job, IsJudgedOnce, HasOneJudgement}
 use Rattle.set_tools.specs.declared.cubunion.Combination.{Combination}
 use Rattle.set_tools.specs.declared.cubunion.Combination.TheVariants.{Union, Intersection}
@@ -27,6 +27,11 @@ use Rattle.map_tools.proofs.Judging as of_maps
 use Rattle.pair_witness.specs.Jobs as witnesses
 use Rattle.pair_witness.proofs.Judging as of_witnesses
 use Rattle.tool.specs.Tasks.{Task, alone}
+use Rattle.replay_tool.specs.declared.inputs.ReplayFiles.{ReplayFiles}
+use Rattle.replay_tool.specs.declared.inputs.ReplayFiles.TheVariants as replayed
+use Rattle.replay_tool.specs.declared.inputs.ReplayJob.{ReplayJob}
+use Rattle.replay_tool.specs.Jobs as replays
+use Rattle.replay_tool.proofs.Judged as of_replays
 use Rattle.chain_tool.specs.Jobs as chains
 use Rattle.chain_tool.proofs.Judging as of_chains
 
@@ -96,6 +101,25 @@ holes_of r = record {
   modulus = r.options.modulus;
 }
 
+-- a witness, and what it speaks of: a set, a set and a subset, or a map and two pairs, where there
+-- is a fourth operand
+abbrev pub replay_files_by : Option (List ℕ) → Request → ReplayFiles
+replay_files_by None r =
+    replayed.Pair (unwrap_or (second r.operands) []) (third r.operands)
+replay_files_by (Some a) r = replayed.Map (record {
+  map = unwrap_or (second r.operands) [];
+  x = unwrap_or (third r.operands) [];
+  a = Some a;
+  y = unwrap_or (fifth r.operands) [];
+  b = Some (unwrap_or (sixth r.operands) []);
+})
+
+abbrev pub replay_files_of : Request → ReplayFiles
+replay_files_of r = replay_files_by (fourth r.operands) r
+
+abbrev pub replay_of : Request → ReplayJob
+replay_of r = record { witness = first r.operands; files = replay_files_of r }
+
 -- ---- all tools
 
 -- a task, and that its job is judged in one way
@@ -124,6 +148,10 @@ judged_chain job = judged (chains.chain_job job) (of_chains.chain_once job)
 abbrev judged_map : MapJob → Judged
 judged_map job = judged (map_homologies.map_job job) (of_map_homologies.map_once job)
 
+abbrev judged_replay : ReplayJob → Judged
+judged_replay job =
+    record { task = alone (replays.replay_job job); once = of_replays.replay_once job }
+
 abbrev pub judged_by : ToolName → Request → Judged
 judged_by tools.Homcubes r = judged_pair (pair_of r) r.options.witness
 judged_by tools.MapHomology r = judged_map (map_of r)
@@ -135,6 +163,7 @@ judged_by tools.Homchain r = judged_chain (chain_of r)
 judged_by tools.Gen r = judged (gens.holes_job (holes_of r)) (of_gens.holes_once (holes_of r))
 judged_by tools.Chkmvmap r =
     judged (maps.values_job (values_of r)) (of_maps.values_once (values_of r))
+judged_by tools.Replay r = judged_replay (replay_of r)
 
 abbrev pub task_by : ToolName → Request → Task
 task_by tool r = (judged_by tool r).task

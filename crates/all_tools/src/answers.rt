@@ -1,6 +1,6 @@
 //! From a command to its answer, for whichever tool it names.
 ghost use Rattle.loading.specs.Jobs.{Answers};
-ghost use Rattle.all_tools.specs.Jobs.{task_by, pair_of, two_files, chain_of, holes_of, values_of, map_of, x_of};
+ghost use Rattle.all_tools.specs.Jobs.{task_by, pair_of, two_files, chain_of, holes_of, values_of, map_of, x_of, replay_of};
 ghost use Rattle.tool.specs.Tasks.{Provides, alone};
 ghost use Rattle.pair_tool.specs.Jobs.{pair_job};
 ghost use Rattle.pair_witness.specs.Jobs.{witness_task};
@@ -9,8 +9,11 @@ ghost use Rattle.chain_tool.specs.Jobs.{chain_job};
 ghost use Rattle.gen_tool.specs.Jobs.{holes_job};
 ghost use Rattle.map_homology.specs.Jobs.{map_job};
 ghost use Rattle.map_tools.specs.Jobs.{values_job};
+ghost use Rattle.replay_tool.specs.Jobs.{replay_job};
 
-use crate::jobs::{chain_job, combination_job, holes_job, map_job, pair_job, values_job};
+use crate::jobs::{
+    chain_job, combination_job, holes_job, map_job, pair_job, replay_job, values_job,
+};
 use chain_tool::homology_of_file;
 use command_line::{Command, ToolName};
 use faults::{Fault, Name};
@@ -21,6 +24,7 @@ use map_tools::check_map;
 use outside::Files;
 use pair_tool::homology_of_pair;
 use pair_witness::witnessed_homology;
+use replay_tool::replayed;
 use set_tools::{Combination, combine};
 use std::alloc::Global;
 use tool::{Output, alone};
@@ -44,6 +48,7 @@ pub fn answer_by<F: Files>(
         ToolName::Homchain => chain_output(alloc, files, command),
         ToolName::Gen => holes_output(alloc, files, command),
         ToolName::Chkmvmap => values_output(alloc, files, command),
+        ToolName::Replay => replay_output(alloc, files, command),
     }
 }
 
@@ -138,6 +143,14 @@ fn values_output<F: Files>(alloc: Global, files: &mut F, command: &Command) -> R
     alone(values_answer(alloc, files, command))
 }
 
+// The test of a witness, alone.
+fn replay_output<F: Files>(alloc: Global, files: &mut F, command: &Command) -> Result<Output, Fault>
+    ensures { Provides (task_by ToolName.Replay command.now)
+        (F.seen files.old) (F.seen files.new) result }
+{
+    alone(replay_answer(alloc, files, command))
+}
+
 // The cubes that touch a set.
 fn neighbours_answer<F: Files>(
     alloc: Global,
@@ -229,4 +242,13 @@ fn map_answer<F: Files>(alloc: Global, files: &mut F, command: &Command) -> Resu
 {
     let job = map_job(alloc, command)?;
     homology_of_map(alloc, files, &job)
+}
+
+// Whether a witness meets the laws, and what it shows.
+fn replay_answer<F: Files>(alloc: Global, files: &mut F, command: &Command) -> Result<Answer, Fault>
+    ensures { Answers (replay_job (replay_of command.now))
+        (F.seen files.old) (F.seen files.new) result }
+{
+    let job = replay_job(alloc, command)?;
+    replayed(alloc, files, &job)
 }

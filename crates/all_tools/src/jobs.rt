@@ -1,7 +1,7 @@
 //! Commands as the jobs of tools.
-ghost use Rattle.std.specs.Prelude.{◌≡◌, ◌≤◌, [], Ok, option_copied, unwrap_or};
+ghost use Rattle.std.specs.Prelude.{◌≡◌, ◌≤◌, [], Ok, None, Some, option_copied, unwrap_or};
 ghost use Rattle.loading.specs.Steps.{IsDue};
-ghost use Rattle.all_tools.specs.Jobs.{pair_of, two_files, chain_of, holes_of, values_of, map_of, map_files_of};
+ghost use Rattle.all_tools.specs.Jobs.{pair_of, two_files, chain_of, holes_of, values_of, map_of, map_files_of, replay_of, replay_files_of, replay_files_by};
 
 use basis_reports::Modulus;
 use chain_tool::ChainJob;
@@ -12,6 +12,7 @@ use map_homology::MapJob;
 use map_tools::ValuesJob;
 use pair_maps::MapFiles;
 use pair_tool::PairJob;
+use replay_tool::{ReplayFiles, ReplayJob};
 use set_tools::{Combination, CombinationJob};
 use std::alloc::Global;
 
@@ -125,6 +126,55 @@ fn map_files(alloc: Global, command: &Command) -> Result<MapFiles, Fault>
         y,
         b: Some(b),
     })
+}
+
+/// A witness file that is to be tested.
+pub fn replay_job(alloc: Global, command: &Command) -> Result<ReplayJob, Fault>
+    ensures { IsDue (Ok (replay_of command.now)) result }
+{
+    let witness = command.first().copy(alloc)?;
+    let files = replay_files(alloc, command)?;
+    Ok(ReplayJob { witness, files })
+}
+
+// The files that a witness speaks of.
+fn replay_files(alloc: Global, command: &Command) -> Result<ReplayFiles, Fault>
+    ensures { IsDue (Ok (replay_files_of command.now)) result }
+{
+    match command.fourth() {
+        Some(a) => replay_map(alloc, command, a),
+        None => replay_pair(alloc, command),
+    }
+}
+
+// A set, or a set and a subset, of which a witness speaks.
+fn replay_pair(alloc: Global, command: &Command) -> Result<ReplayFiles, Fault>
+    ensures { IsDue (Ok (replay_files_by None command.now)) result }
+{
+    let x = copy_or_empty(alloc, command.second())?;
+    let a = match command.third() {
+        Some(a) => Some(a.copy(alloc)?),
+        None => None,
+    };
+    Ok(ReplayFiles::Pair { x, a })
+}
+
+// A map and two pairs of which a witness speaks.
+fn replay_map(alloc: Global, command: &Command, a: &Name) -> Result<ReplayFiles, Fault>
+    ensures { IsDue (Ok (replay_files_by (Some a.now) command.now)) result }
+{
+    let map = copy_or_empty(alloc, command.second())?;
+    let x = copy_or_empty(alloc, command.third())?;
+    let a = a.copy(alloc)?;
+    let y = copy_or_empty(alloc, command.fifth())?;
+    let b = copy_or_empty(alloc, command.sixth())?;
+    Ok(ReplayFiles::Map(MapFiles {
+        map,
+        x,
+        a: Some(a),
+        y,
+        b: Some(b),
+    }))
 }
 
 // A name once more, or the empty one where there is none.

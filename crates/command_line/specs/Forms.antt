@@ -53,6 +53,7 @@ forms =
     ∷ row tools.Homchain (codes "homchain") 1 1 of_homology
     ∷ row tools.Gen (codes "gen") 2 2 of_generator
     ∷ row tools.Chkmvmap (codes "chkmvmap") 3 3 of_maps
+    ∷ row tools.Replay (codes "replay") 2 6 []
     ∷ []
 
 -- an option: its name, and whether it takes a value
@@ -250,10 +251,12 @@ of_map form = row tools.MapHomology form.name 4 4 form.options
 abbrev pub form_with : List Setting → Row → Row
 form_with settings form = if is_set Map settings then of_map form else form
 
--- the operands are words that the tool takes: those of the generator name a number of holes, and
+-- the operands are words that the tool takes: those of the generator name a number of holes; those
+-- of the replayer are a witness and a set, a witness and a pair, or a witness, a map and two pairs;
 -- those of other tools are any words
 abbrev pub are_operands : ToolName → List (List ℕ) → Bool
 are_operands tools.Gen operands = is_some (holes_named operands)
+are_operands tools.Replay operands = nat_le (length operands) 3 || nat_le 6 (length operands)
 are_operands tool operands = true
 
 -- neither too few operands nor too many, all of them words that the tool takes; options that may

@@ -117,6 +117,14 @@ abbrev pub fourth : List (List ℕ) → Option (List ℕ)
 fourth [] = None
 fourth (x ∷ xs) = third xs
 
+abbrev pub fifth : List (List ℕ) → Option (List ℕ)
+fifth [] = None
+fifth (x ∷ xs) = fourth xs
+
+abbrev pub sixth : List (List ℕ) → Option (List ℕ)
+sixth [] = None
+sixth (x ∷ xs) = fifth xs
+
 -- ---- want of memory
 
 -- the result is the due one, or that memory ran out

@@ -1,7 +1,7 @@
 //! What words ask for.
 ghost use Rattle.std.specs.Prelude.{◌≡◌, ◌≤◌, IfSome};
 ghost use Rattle.std.specs.Option.{option_map};
-ghost use Rattle.command_line.specs.Words.{request_by, request_of, first, second, third, fourth};
+ghost use Rattle.command_line.specs.Words.{request_by, request_of, first, second, third, fourth, fifth, sixth};
 ghost use Rattle.command_line.specs.Operands.{holes_named};
 
 use crate::arguments::Arguments;
@@ -88,6 +88,20 @@ impl Command {
         ensures { option_map (λ name. name.now) result ≡ fourth self.now.operands }
     {
         self.operands.get(3)
+    }
+
+    /// The fifth operand, where there is one.
+    pub fn fifth(&self) -> Option<&Name>
+        ensures { option_map (λ name. name.now) result ≡ fifth self.now.operands }
+    {
+        self.operands.get(4)
+    }
+
+    /// The sixth operand, where there is one.
+    pub fn sixth(&self) -> Option<&Name>
+        ensures { option_map (λ name. name.now) result ≡ sixth self.now.operands }
+    {
+        self.operands.get(5)
     }
 
     /// The number of holes that the operands name, from 1 to 527, where they name one.

@@ -19,6 +19,7 @@ pub enum ToolName {
     Homchain,
     Gen,
     Chkmvmap,
+    Replay,
 }
 
 /// A row of the table of forms: a tool with its name, the fewest and the most operands, one at
@@ -77,6 +78,7 @@ impl Form {
             "homchain" => Some(Form::of(ToolName::Homchain, "homchain", 1, 1, &OF_HOMOLOGY)),
             "gen" => Some(Form::of(ToolName::Gen, "gen", 2, 2, &OF_GENERATOR)),
             "chkmvmap" => Some(Form::of(ToolName::Chkmvmap, "chkmvmap", 3, 3, &OF_MAPS)),
+            "replay" => Some(Form::of(ToolName::Replay, "replay", 2, 6, &[])),
             _ => None,
         }
     }

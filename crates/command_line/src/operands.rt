@@ -14,6 +14,7 @@ pub fn are_operands(tool: ToolName, operands: &[Name]) -> bool
 {
     match tool {
         ToolName::Gen => holes_named(operands).is_some(),
+        ToolName::Replay => operands.len() <= 3 || 6 <= operands.len(),
         _ => true,
     }
 }
