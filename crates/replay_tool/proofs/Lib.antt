@@ -1,0 +1,11 @@
+pub mod Heading
+pub mod Files
+pub mod Judging
+pub mod Computing
+pub mod Telling
+pub mod Measuring
+pub mod Growing
+pub mod Sets
+pub mod Judged
+pub mod Testing
+pub mod Limiting
