@@ -1,4 +1,4 @@
-//! Runs that write a witness file, and what it holds then.
+//! Runs that write a witness file, and what it holds then; and runs that test one.
 use crate::rows::{DONE, Row, held, words_of};
 use all_tools::run;
 use faults::Status;
@@ -8,7 +8,13 @@ use std::process::Abort;
 use std::test::Fail;
 use std::thread::Threads;
 
-const FILES: [(&str, &str); 3] = [("x", "(0)"), ("a", "[(0)(0)] [(1)(1)]"), ("w", "as it was")];
+const FILES: [(&str, &str); 5] = [
+    ("x", "(0)"),
+    ("a", "[(0)(0)] [(1)(1)]"),
+    ("w", "as it was"),
+    ("right", OF_EDGE),
+    ("wrong", WITHOUT_DUAL),
+];
 
 // An edge relative to its ends, modulo 2 and modulo 3.
 const OF_EDGE: &str = "chomp witness 1\nmod 2\nclaim pair\n\
@@ -17,8 +23,12 @@ const OF_EDGE: &str = "chomp witness 1\nmod 2\nclaim pair\n\
 const BY_THREE: &str = "chomp witness 1\nmod 3\nclaim pair\n\
      pair domain\nz 1: 1*2\nc 1: 1*2\nh 2:\nend\n";
 
+// The same with a cocycle that is 0 on the cycle.
+const WITHOUT_DUAL: &str = "chomp witness 1\nmod 2\nclaim pair\n\
+     pair domain\nz 1: 1*2\nc 1:\nh 2:\nend\n";
+
 // What a run has to answer, the file of its witness and what that holds.
-const ROWS: [(Row, &str, &str); 5] = [
+const ROWS: [(Row, &str, &str); 7] = [
     (
         Row {
             words: &["homcubes", "x", "a", "--witness", "w"],
@@ -71,10 +81,30 @@ const ROWS: [(Row, &str, &str); 5] = [
         "w",
         OF_EDGE,
     ),
+    // A witness is tested, and stays.
+    (
+        Row {
+            words: &["replay", "right", "x", "a"],
+            out: "accepted\nH_0 = 0\nH_1 = Z_2\n",
+            ..DONE
+        },
+        "right",
+        OF_EDGE,
+    ),
+    (
+        Row {
+            words: &["replay", "wrong", "x", "a"],
+            status: Status::Witness,
+            err: "error: wrong: line 6: Dual\n",
+            ..DONE
+        },
+        "wrong",
+        WITHOUT_DUAL,
+    ),
 ];
 
 #[test]
-fn witness_files_are_written(rt: HostRuntime) -> Result<(), Fail> {
+fn witness_files_are_written_and_tested(rt: HostRuntime) -> Result<(), Fail> {
     for (row, name, text) in &ROWS {
         writes(&rt, rt.alloc(), row, name, text)?;
     }
