@@ -1,0 +1,198 @@
+-- What is written for a map is accepted.
+use Rattle.std.proofs.Common.{◌≡◌, ◌≢◌, ◌⊎◌, ℕ, ◌+◌, ◌<◌, ◌≤◌, refl, sym, ap, ◌∙◌, arith, inl, inr, ⊎_elim, List, [], ◌∷◌, ◌++◌, length, take, drop, true, false, cond, eqb, eqb-true, eq-eqb, ne_eqb, append_assoc, subst}
+use Rattle.std.proofs.lemmas.Bool.{true≢false, or_cases, cases_eq, cond_both}
+use Rattle.std.proofs.lemmas.List.{append-nil}
+use Rattle.std.proofs.lemmas.List.Elements.{All-from_recursion, All-map}
+use Rattle.std.specs.Prelude.{codes, ◌||◌}
+use Rattle.std.specs.List.{All, AllByRecursion, flat_map}
+use Rattle.field_mod.specs.Moduli.{IsModulus}
+use Rattle.elem_cubes.specs.Cells.{Factor, dimension_of}
+use Rattle.cube_sets.specs.Sets.{Members, IsCubeSet, dimensions_agree}
+use Rattle.cube_maps.specs.CubeMaps.{Mapping}
+use Rattle.cell_complex.specs.Numbering.{IsRelativeComplex}
+use Rattle.cell_complex.specs.Sorted.{IsSortedCells}
+use Rattle.homology_basis.specs.Bases.{BasisOfLog, IsBasisWithContraction}
+use Rattle.leray_conley.specs.Tables.{Table, IsTable}
+use Rattle.map_checks.specs.Carriers.{AreOfOneDimension}
+use Rattle.map_checks.specs.Faults.{HasNoSetFault}
+use Rattle.witness_laws.specs.Lines.{numeral, lines_of, IsOneLine}
+use Rattle.witness_laws.specs.Formats.{texts_of}
+use Rattle.witness_laws.specs.Inputs.{Given, relative_cells}
+use Rattle.witness_laws.specs.Sections.{IsSection}
+use Rattle.witness_laws.specs.Tables.{Tables, PairTables, MapTables, tables_format, text_of_line, lines_of_tables}
+use Rattle.witness_laws.proofs.Texts.{texts_have_their_lines, feed_append, feed_numeral}
+use Rattle.witness_types.specs.declared.heading.ClaimKind.TheVariants as kinds
+use Rattle.witness_types.specs.Headers.{version_line, modulus_line, kind_line, IsHeader, body_of}
+use Rattle.witness_types.specs.declared.part.PairPart.{PairPart}
+use Rattle.witness_types.specs.declared.part.MapPart.{MapPart}
+use Rattle.witness_types.specs.Inputs.{first_known}
+use Rattle.witness_types.specs.Parts.{pair_tables, map_tables}
+use Rattle.witness_writing.specs.Runs.{table_at}
+use Rattle.witness_writing.proofs.Counting.{kept_are}
+use Rattle.witness_parts.specs.Tables.{section_by, AreTablesOf, HasAtMost, IsPartOf}
+use Rattle.witness_parts.specs.Witnesses.{top_of}
+use Rattle.witness_parts.proofs.Based.{based_section, based_cochains}
+use Rattle.witness_parts.proofs.Holding.{at_most}
+use Rattle.map_parts.specs.Maps.{given_map, map_value, value_of_parts, map_text, top_of_map, AreMapTablesOf, IsMapPartOf, AreInducedTables, IsMapWitness}
+use Rattle.map_parts.proofs.Meeting.{IsMapAccepted, map_accepted}
+
+-- ---- dimensions
+
+first_is : (d : ℕ) (ds : List ℕ) → ((d ≡ 0) × (first_known (d ∷ ds) ≡ first_known ds)) ⊎ ((d ≢ 0) × (first_known (d ∷ ds) ≡ d))
+first_is d ds = ⊎_elim
+    (λ e. inl (e, ap (λ v. cond v (first_known ds) d) (eq-eqb d 0 e)))
+    (λ n. inr (n, ap (λ v. cond v (first_known ds) d) (ne_eqb d 0 n)))
+    (cases_eq d 0)
+
+agreed : (m d : ℕ) → dimensions_agree m d ≡ true → m ≢ 0 → d ≤ m
+agreed m d e n = ⊎_elim
+    (λ h. ⊎_elim
+    (λ k. let s = eqb-true m d k in omega (arith, s))
+    (λ k. absurd (n (eqb-true m 0 k)))
+    (or_cases (eqb m d) (eqb m 0) h))
+    (λ h. let s = eqb-true d 0 h in omega (arith, s))
+    (or_cases (eqb m d || eqb m 0) (eqb d 0) e)
+
+two_known : (n d e : ℕ) → d ≤ n → e ≤ n → first_known (d ∷ e ∷ []) ≤ n
+two_known n d e l k =
+    cond_both (eqb d 0) (first_known (e ∷ [])) d (λ (m : ℕ). m ≤ n) (λ _. cond_both (eqb e 0) 0 e (λ (m : ℕ). m ≤ n) (λ _. omega arith) (λ _. k)) (λ _. l)
+
+module _ (f : Mapping) (x a y b : Members) (one : AreOfOneDimension f x a y b) where
+  abbrev t : ℕ
+  t = top_of_map f x a y b
+
+  abbrev m : ℕ
+  m = f.dimension
+
+  below_x : top_of x a ≤ t
+  below_x = ⊎_elim
+      (λ u. ⊎_elim
+      (λ v. ⊎_elim
+      (λ w. let e : top_of x a ≡ 0 = ap (λ (d : ℕ). first_known (d ∷ a.dimension ∷ [])) v.0 ∙ ap (λ (d : ℕ). first_known (d ∷ [])) w.0 in omega (arith, e))
+      (λ w. let e : top_of x a ≡ a.dimension = ap (λ (d : ℕ). first_known (d ∷ a.dimension ∷ [])) v.0 ∙ ap (λ q. cond q 0 a.dimension) (ne_eqb a.dimension 0 w.0) in omega (arith, e, u.1, v.1, w.1))
+      (first_is a.dimension (y.dimension ∷ b.dimension ∷ [])))
+      (λ v. let e : top_of x a ≡ x.dimension = ap (λ q. cond q (first_known (a.dimension ∷ [])) x.dimension) (ne_eqb x.dimension 0 v.0) in omega (arith, e, u.1, v.1))
+      (first_is x.dimension (a.dimension ∷ y.dimension ∷ b.dimension ∷ [])))
+      (λ u. let l = two_known m x.dimension a.dimension (agreed m x.dimension one.map_x u.0) (agreed m a.dimension one.map_a u.0) in omega (arith, l, u.1))
+      (first_is m (x.dimension ∷ a.dimension ∷ y.dimension ∷ b.dimension ∷ []))
+
+  below_y : top_of y b ≤ t
+  below_y = ⊎_elim
+      (λ u. ⊎_elim
+      (λ v. ⊎_elim
+      (λ w. omega (arith, u.1, v.1, w.1))
+      (λ w. let l = two_known a.dimension y.dimension b.dimension (agreed a.dimension y.dimension one.a_y w.0) (agreed a.dimension b.dimension one.a_b w.0) in omega (arith, l, u.1, v.1, w.1))
+      (first_is a.dimension (y.dimension ∷ b.dimension ∷ [])))
+      (λ v. let l = two_known x.dimension y.dimension b.dimension (agreed x.dimension y.dimension one.x_y v.0) (agreed x.dimension b.dimension one.x_b v.0) in omega (arith, l, u.1, v.1))
+      (first_is x.dimension (a.dimension ∷ y.dimension ∷ b.dimension ∷ [])))
+      (λ u. let l = two_known m y.dimension b.dimension (agreed m y.dimension one.map_y u.0) (agreed m b.dimension one.map_b u.0) in omega (arith, l, u.1))
+      (first_is m (x.dimension ∷ a.dimension ∷ y.dimension ∷ b.dimension ∷ []))
+
+  pub most_x : IsCubeSet x → HasAtMost t x.cells a.cells
+  most_x h q e = let l = at_most x a h q e in omega (arith, l, below_x)
+
+  pub most_y : IsCubeSet y → HasAtMost t y.cells b.cells
+  most_y h q e = let l = at_most y b h q e in omega (arith, l, below_y)
+
+-- ---- the lines of the text
+
+all_of : {A : Type 0} (P : A → Type 0) → ((y : A) → P y) → (ys : List A) → All P ys
+all_of {A} P h ys = All-from_recursion P ys (go ys)
+  where
+    go : (zs : List A) → AllByRecursion P zs
+    go [] = tt
+    go (z ∷ zs) = (h z, go zs)
+
+module _ (p : ℕ) (G : Given) (W : Tables) where
+  abbrev texts : List (List ℕ)
+  texts = texts_of (tables_format p G) W
+
+  abbrev body : List ℕ
+  body = flat_map (λ t. t) texts
+
+  body_lines : lines_of body ≡ texts
+  body_lines = texts_have_their_lines.lines texts (All-map IsOneLine (text_of_line G W) (lines_of_tables W)
+      (all_of (λ l. IsOneLine (text_of_line G W l)) (texts_have_their_lines.tables G W) (lines_of_tables W)))
+
+  version_is : IsOneLine (version_line 1)
+  version_is = record { before = codes "chomp witness " ++ numeral 1; none = refl; ends = refl }
+
+  modulus_is : IsOneLine (modulus_line p)
+  modulus_is = record { before = codes "mod " ++ numeral p; none = feed_append (codes "mod ") (numeral p) refl (feed_numeral p); ends = refl }
+
+  kind_is : IsOneLine (kind_line kinds.Map)
+  kind_is = record { before = codes "claim map"; none = refl; ends = refl }
+
+  abbrev whole : List ℕ
+  whole = map_text p G W
+
+  split : whole ≡ version_line 1 ++ (modulus_line p ++ (kind_line kinds.Map ++ body))
+  split =
+      append_assoc (version_line 1) (modulus_line p ++ (kind_line kinds.Map ++ [])) body
+      ∙ ap (λ l. version_line 1 ++ l) (append_assoc (modulus_line p) (kind_line kinds.Map ++ []) body ∙ ap (λ l. modulus_line p ++ (l ++ body)) (append-nil (kind_line kinds.Map)))
+
+  whole_lines : lines_of whole ≡ version_line 1 ∷ modulus_line p ∷ kind_line kinds.Map ∷ texts
+  whole_lines =
+      ap lines_of split ∙ texts_have_their_lines.first (version_line 1) (modulus_line p ++ (kind_line kinds.Map ++ body)) version_is
+      ∙ ap (λ ls. version_line 1 ∷ ls) (texts_have_their_lines.first (modulus_line p) (kind_line kinds.Map ++ body) modulus_is
+      ∙ ap (λ ls. modulus_line p ∷ ls) (texts_have_their_lines.first (kind_line kinds.Map) body kind_is ∙ ap (λ ls. kind_line kinds.Map ∷ ls) body_lines))
+
+  pub whole_header : IsModulus p → IsHeader whole (record { version = 1; modulus = p; kind = kinds.Map })
+  whole_header known = record { lines = ap (take 3) whole_lines; version = refl; modulus = known }
+
+  pub whole_body : body_of whole ≡ texts
+  whole_body = ap (drop 3) whole_lines
+
+-- ---- the whole
+
+-- a basis of a pair gives a section
+section_is : (p : ℕ) (x a cells : List (List Factor)) (A : BasisOfLog) → 1 ≤ p → IsSortedCells cells → IsRelativeComplex p x a cells A.log.complex → IsBasisWithContraction p A → IsSection p x a (relative_cells x a) (section_by p cells A)
+section_is p x a cells A one sorted R w =
+    subst (λ (l : List (List Factor)). IsSection p x a l (section_by p cells A)) (kept_are x a cells R.listing sorted) (based_section p x a cells A one R w)
+
+module _ (p : ℕ) (f : Mapping) (x a y b : Members) (cells : List (List Factor)) (A : BasisOfLog) (others : List (List Factor)) (B : BasisOfLog) (ms : List Table) (one : 1 ≤ p)
+    (alike : AreOfOneDimension f x a y b) (nf : HasNoSetFault f.named x.cells a.cells y.cells b.cells) (sx : IsCubeSet x) (sy : IsCubeSet y) (sorted : IsSortedCells cells) (sorted_others : IsSortedCells others)
+    (RA : IsRelativeComplex p x.cells a.cells cells A.log.complex) (RB : IsRelativeComplex p y.cells b.cells others B.log.complex) (wa : IsBasisWithContraction p A) (wb : IsBasisWithContraction p B)
+    (ind : AreInducedTables p (top_of_map f x a y b) f.named x.cells a.cells y.cells b.cells (section_by p cells A) (section_by p others B) ms) (small : (k : ℕ) → k < length ms → IsTable p (table_at ms k))
+    (S : PairTables) (M : MapTables) (tx : AreTablesOf p (top_of_map f x a y b) x.cells a.cells (section_by p cells A) S)
+    (tm : AreMapTablesOf p (top_of_map f x a y b) f.named x.cells a.cells y.cells b.cells (section_by p others B) ms M) where
+  pub accepted : IsMapAccepted p (given_map f x a y b) (map_value S M)
+  accepted = map_accepted p (top_of_map f x a y b) f.named x.cells a.cells y.cells b.cells (section_by p cells A) (section_by p others B) ms S M nf
+      (section_is p x.cells a.cells cells A one sorted RA wa) (section_is p y.cells b.cells others B one sorted_others RB wb)
+      (based_cochains p x.cells a.cells cells A one RA wa) (based_cochains p y.cells b.cells others B one RB wb)
+      (most_x f x a y b alike sx) (most_y f x a y b alike sy) tx tm ind small
+
+  pub is_witness : IsModulus p → (bytes : List ℕ) → bytes ≡ map_text p (given_map f x a y b) (map_value S M) → IsMapWitness p f x a y b cells A others B ms bytes
+  is_witness known bytes e = record {
+    tables = S;
+    more = M;
+    header = subst (λ (t : List ℕ). IsHeader t (record { version = 1; modulus = p; kind = kinds.Map })) (sym e) (whole_header p (given_map f x a y b) (map_value S M) known);
+    accepted = record {
+      has = record { fits = accepted.fits; lines = sym (ap body_of e ∙ whole_body p (given_map f x a y b) (map_value S M)) };
+      meets = accepted.meets;
+    };
+    made = tx;
+    made_map = tm;
+  }
+
+-- the same of parts
+module _ (p : ℕ) (f : Mapping) (x a y b : Members) (cells : List (List Factor)) (A : BasisOfLog) (others : List (List Factor)) (B : BasisOfLog) (ms : List Table) (one : 1 ≤ p)
+    (alike : AreOfOneDimension f x a y b) (nf : HasNoSetFault f.named x.cells a.cells y.cells b.cells) (sx : IsCubeSet x) (sy : IsCubeSet y) (sorted : IsSortedCells cells) (sorted_others : IsSortedCells others)
+    (RA : IsRelativeComplex p x.cells a.cells cells A.log.complex) (RB : IsRelativeComplex p y.cells b.cells others B.log.complex) (wa : IsBasisWithContraction p A) (wb : IsBasisWithContraction p B)
+    (ind : AreInducedTables p (top_of_map f x a y b) f.named x.cells a.cells y.cells b.cells (section_by p cells A) (section_by p others B) ms) (small : (k : ℕ) → k < length ms → IsTable p (table_at ms k))
+    (top : ℕ) (e : top ≡ top_of_map f x a y b) (part : PairPart p) (more : MapPart p) (is : IsPartOf top x.cells a.cells (section_by p cells A) part)
+    (is_more : IsMapPartOf top f.named x.cells a.cells y.cells b.cells (section_by p others B) ms more) where
+  abbrev t : ℕ
+  t = top_of_map f x a y b
+
+  tables : AreTablesOf p t x.cells a.cells (section_by p cells A) (pair_tables t part)
+  tables = (subst (λ (n : ℕ). IsPartOf n x.cells a.cells (section_by p cells A) part) e is).tables
+
+  more_tables : AreMapTablesOf p t f.named x.cells a.cells y.cells b.cells (section_by p others B) ms (map_tables t more)
+  more_tables = (subst (λ (n : ℕ). IsMapPartOf n f.named x.cells a.cells y.cells b.cells (section_by p others B) ms more) e is_more).tables
+
+  pub parts_accepted : IsMapAccepted p (given_map f x a y b) (value_of_parts t part more)
+  parts_accepted = accepted p f x a y b cells A others B ms one alike nf sx sy sorted sorted_others RA RB wa wb ind small (pair_tables t part) (map_tables t more) tables more_tables
+
+  pub parts_written : IsModulus p → (bytes : List ℕ) → bytes ≡ map_text p (given_map f x a y b) (value_of_parts t part more) → IsMapWitness p f x a y b cells A others B ms bytes
+  parts_written = is_witness p f x a y b cells A others B ms one alike nf sx sy sorted sorted_others RA RB wa wb ind small (pair_tables t part) (map_tables t more) tables more_tables
