@@ -8,7 +8,7 @@ use Rattle.std.specs.List.{All, AllByRecursion, flat_map}
 use Rattle.field_mod.specs.Moduli.{IsModulus}
 use Rattle.elem_cubes.specs.Cells.{Factor, dimension_of}
 use Rattle.cube_sets.specs.Sets.{Members, IsCubeSet, dimensions_agree}
-use Rattle.cube_maps.specs.CubeMaps.{Mapping}
+use Rattle.cube_maps.specs.CubeMaps.{Naming, Mapping}
 use Rattle.cell_complex.specs.Numbering.{IsRelativeComplex}
 use Rattle.cell_complex.specs.Sorted.{IsSortedCells}
 use Rattle.homology_basis.specs.Bases.{BasisOfLog, IsBasisWithContraction}
@@ -18,7 +18,7 @@ use Rattle.map_checks.specs.Faults.{HasNoSetFault}
 use Rattle.witness_laws.specs.Lines.{numeral, lines_of, IsOneLine}
 use Rattle.witness_laws.specs.Formats.{texts_of}
 use Rattle.witness_laws.specs.Inputs.{Given, relative_cells}
-use Rattle.witness_laws.specs.Sections.{IsSection}
+use Rattle.witness_laws.specs.Sections.{Section, IsSection}
 use Rattle.witness_laws.specs.Tables.{Tables, PairTables, MapTables, tables_format, text_of_line, lines_of_tables}
 use Rattle.witness_laws.proofs.Texts.{texts_have_their_lines, feed_append, feed_numeral}
 use Rattle.witness_types.specs.declared.heading.ClaimKind.TheVariants as kinds
@@ -33,7 +33,7 @@ use Rattle.witness_parts.specs.Tables.{section_by, AreTablesOf, HasAtMost, IsPar
 use Rattle.witness_parts.specs.Witnesses.{top_of}
 use Rattle.witness_parts.proofs.Based.{based_section, based_cochains}
 use Rattle.witness_parts.proofs.Holding.{at_most}
-use Rattle.map_parts.specs.Maps.{given_map, map_value, value_of_parts, map_text, top_of_map, AreMapTablesOf, IsMapPartOf, AreInducedTables, IsMapWitness}
+use Rattle.map_parts.specs.Maps.{given_map, value_of_parts, map_text, top_of_map, AreMapTablesOf, IsMapPartOf, AreInducedTables, IsDomainPart, IsMapWitness}
 use Rattle.map_parts.proofs.Meeting.{IsMapAccepted, map_accepted}
 
 -- ---- dimensions
@@ -150,49 +150,44 @@ section_is : (p : ℕ) (x a cells : List (List Factor)) (A : BasisOfLog) → 1 �
 section_is p x a cells A one sorted R w =
     subst (λ (l : List (List Factor)). IsSection p x a l (section_by p cells A)) (kept_are x a cells R.listing sorted) (based_section p x a cells A one R w)
 
-module _ (p : ℕ) (f : Mapping) (x a y b : Members) (cells : List (List Factor)) (A : BasisOfLog) (others : List (List Factor)) (B : BasisOfLog) (ms : List Table) (one : 1 ≤ p)
-    (alike : AreOfOneDimension f x a y b) (nf : HasNoSetFault f.named x.cells a.cells y.cells b.cells) (sx : IsCubeSet x) (sy : IsCubeSet y) (sorted : IsSortedCells cells) (sorted_others : IsSortedCells others)
-    (RA : IsRelativeComplex p x.cells a.cells cells A.log.complex) (RB : IsRelativeComplex p y.cells b.cells others B.log.complex) (wa : IsBasisWithContraction p A) (wb : IsBasisWithContraction p B)
-    (ind : AreInducedTables p (top_of_map f x a y b) f.named x.cells a.cells y.cells b.cells (section_by p cells A) (section_by p others B) ms) (small : (k : ℕ) → k < length ms → IsTable p (table_at ms k))
-    (S : PairTables) (M : MapTables) (tx : AreTablesOf p (top_of_map f x a y b) x.cells a.cells (section_by p cells A) S)
-    (tm : AreMapTablesOf p (top_of_map f x a y b) f.named x.cells a.cells y.cells b.cells (section_by p others B) ms M) where
-  pub accepted : IsMapAccepted p (given_map f x a y b) (map_value S M)
-  accepted = map_accepted p (top_of_map f x a y b) f.named x.cells a.cells y.cells b.cells (section_by p cells A) (section_by p others B) ms S M nf
-      (section_is p x.cells a.cells cells A one sorted RA wa) (section_is p y.cells b.cells others B one sorted_others RB wb)
-      (based_cochains p x.cells a.cells cells A one RA wa) (based_cochains p y.cells b.cells others B one RB wb)
-      (most_x f x a y b alike sx) (most_y f x a y b alike sy) tx tm ind small
+-- the part of a domain that is made of a basis
+pub based_domain : (p top : ℕ) (f : List Naming) (x a y b cells : List (List Factor)) (A : BasisOfLog) (Y : Section) (ms : List Table) (part : PairPart p) → 1 ≤ p → IsSortedCells cells → IsRelativeComplex p x a cells A.log.complex
+    → IsBasisWithContraction p A → IsPartOf top x a (section_by p cells A) part → AreInducedTables p top f x a y b (section_by p cells A) Y ms → IsDomainPart p top f x a y b Y ms part
+based_domain p top f x a y b cells A Y ms part one sorted R w is ind = record {
+  X = section_by p cells A;
+  is_section = section_is p x a cells A one sorted R w;
+  cochains = based_cochains p x a cells A one R w;
+  part_of = is;
+  matrices = ind;
+}
 
-  pub is_witness : IsModulus p → (bytes : List ℕ) → bytes ≡ map_text p (given_map f x a y b) (map_value S M) → IsMapWitness p f x a y b cells A others B ms bytes
-  is_witness known bytes e = record {
-    tables = S;
-    more = M;
-    header = subst (λ (t : List ℕ). IsHeader t (record { version = 1; modulus = p; kind = kinds.Map })) (sym e) (whole_header p (given_map f x a y b) (map_value S M) known);
-    accepted = record {
-      has = record { fits = accepted.fits; lines = sym (ap body_of e ∙ whole_body p (given_map f x a y b) (map_value S M)) };
-      meets = accepted.meets;
-    };
-    made = tx;
-    made_map = tm;
-  }
-
--- the same of parts
-module _ (p : ℕ) (f : Mapping) (x a y b : Members) (cells : List (List Factor)) (A : BasisOfLog) (others : List (List Factor)) (B : BasisOfLog) (ms : List Table) (one : 1 ≤ p)
-    (alike : AreOfOneDimension f x a y b) (nf : HasNoSetFault f.named x.cells a.cells y.cells b.cells) (sx : IsCubeSet x) (sy : IsCubeSet y) (sorted : IsSortedCells cells) (sorted_others : IsSortedCells others)
-    (RA : IsRelativeComplex p x.cells a.cells cells A.log.complex) (RB : IsRelativeComplex p y.cells b.cells others B.log.complex) (wa : IsBasisWithContraction p A) (wb : IsBasisWithContraction p B)
-    (ind : AreInducedTables p (top_of_map f x a y b) f.named x.cells a.cells y.cells b.cells (section_by p cells A) (section_by p others B) ms) (small : (k : ℕ) → k < length ms → IsTable p (table_at ms k))
-    (top : ℕ) (e : top ≡ top_of_map f x a y b) (part : PairPart p) (more : MapPart p) (is : IsPartOf top x.cells a.cells (section_by p cells A) part)
-    (is_more : IsMapPartOf top f.named x.cells a.cells y.cells b.cells (section_by p others B) ms more) where
+module _ (p : ℕ) (f : Mapping) (x a y b : Members) (cells : List (List Factor)) (B : BasisOfLog) (ms : List Table) (one : 1 ≤ p)
+    (alike : AreOfOneDimension f x a y b) (nf : HasNoSetFault f.named x.cells a.cells y.cells b.cells) (sx : IsCubeSet x) (sy : IsCubeSet y) (sorted : IsSortedCells cells)
+    (R : IsRelativeComplex p y.cells b.cells cells B.log.complex) (w : IsBasisWithContraction p B) (small : (k : ℕ) → k < length ms → IsTable p (table_at ms k))
+    (top : ℕ) (e : top ≡ top_of_map f x a y b) (part : PairPart p) (more : MapPart p)
+    (d : IsDomainPart p (top_of_map f x a y b) f.named x.cells a.cells y.cells b.cells (section_by p cells B) ms part)
+    (is_more : IsMapPartOf p top f.named x.cells a.cells y.cells b.cells (section_by p cells B) ms more) where
   abbrev t : ℕ
   t = top_of_map f x a y b
 
-  tables : AreTablesOf p t x.cells a.cells (section_by p cells A) (pair_tables t part)
-  tables = (subst (λ (n : ℕ). IsPartOf n x.cells a.cells (section_by p cells A) part) e is).tables
+  abbrev Y : Section
+  Y = section_by p cells B
 
-  more_tables : AreMapTablesOf p t f.named x.cells a.cells y.cells b.cells (section_by p others B) ms (map_tables t more)
-  more_tables = (subst (λ (n : ℕ). IsMapPartOf n f.named x.cells a.cells y.cells b.cells (section_by p others B) ms more) e is_more).tables
+  more_tables : AreMapTablesOf p t f.named x.cells a.cells y.cells b.cells Y ms (map_tables t more)
+  more_tables = (subst (λ (n : ℕ). IsMapPartOf p n f.named x.cells a.cells y.cells b.cells Y ms more) e is_more).tables
 
   pub parts_accepted : IsMapAccepted p (given_map f x a y b) (value_of_parts t part more)
-  parts_accepted = accepted p f x a y b cells A others B ms one alike nf sx sy sorted sorted_others RA RB wa wb ind small (pair_tables t part) (map_tables t more) tables more_tables
+  parts_accepted = map_accepted p t f.named x.cells a.cells y.cells b.cells d.X Y ms (pair_tables t part) (map_tables t more) nf
+      d.is_section (section_is p y.cells b.cells cells B one sorted R w) d.cochains (based_cochains p y.cells b.cells cells B one R w)
+      (most_x f x a y b alike sx) (most_y f x a y b alike sy) d.part_of.tables more_tables d.matrices small
 
-  pub parts_written : IsModulus p → (bytes : List ℕ) → bytes ≡ map_text p (given_map f x a y b) (value_of_parts t part more) → IsMapWitness p f x a y b cells A others B ms bytes
-  parts_written = is_witness p f x a y b cells A others B ms one alike nf sx sy sorted sorted_others RA RB wa wb ind small (pair_tables t part) (map_tables t more) tables more_tables
+  pub parts_written : IsModulus p → (bytes : List ℕ) → bytes ≡ map_text p (given_map f x a y b) (value_of_parts t part more) → IsMapWitness p f x a y b part cells B ms bytes
+  parts_written known bytes same = record {
+    more = map_tables t more;
+    header = subst (λ (l : List ℕ). IsHeader l (record { version = 1; modulus = p; kind = kinds.Map })) (sym same) (whole_header p (given_map f x a y b) (value_of_parts t part more) known);
+    accepted = record {
+      has = record { fits = parts_accepted.fits; lines = sym (ap body_of same ∙ whole_body p (given_map f x a y b) (value_of_parts t part more)) };
+      meets = parts_accepted.meets;
+    };
+    made = more_tables;
+  }

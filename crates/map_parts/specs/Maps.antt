@@ -1,8 +1,10 @@
 -- The part of a map in a witness, and what a file holds that is written for a map.
 use Rattle.std.specs.Prelude.{◌≡◌, ℕ, ◌+◌, ◌<◌, List, [], ◌∷◌, length, map, slice_index_or, Some}
 use Rattle.elem_cubes.specs.Cells.{Factor}
+use Rattle.chains.specs.Homology.{IsChain}
 use Rattle.cube_sets.specs.Sets.{Members}
 use Rattle.cube_sets.specs.Closures.{cells_of}
+use Rattle.cell_complex.specs.RelativeComplex.{relative_complex}
 use Rattle.cube_maps.specs.CubeMaps.{Naming, Mapping}
 use Rattle.acyclic_values.specs.CarriedMaps.{IsInducedMatrix}
 use Rattle.map_checks.specs.Carriers.{Carrying}
@@ -10,8 +12,8 @@ use Rattle.map_checks.specs.Faults.{together}
 use Rattle.homology_basis.specs.Bases.{BasisOfLog}
 use Rattle.leray_conley.specs.Tables.{Table, entry}
 use Rattle.witness_laws.specs.Formats.{IsAccepted}
-use Rattle.witness_laws.specs.Inputs.{Given}
-use Rattle.witness_laws.specs.Sections.{Section}
+use Rattle.witness_laws.specs.Inputs.{Given, relative_cells}
+use Rattle.witness_laws.specs.Sections.{Section, IsSection}
 use Rattle.witness_laws.specs.Tables.{Tables, PairTables, MapTables, tables_format}
 use Rattle.witness_types.specs.declared.heading.ClaimKind.TheVariants as kinds
 use Rattle.witness_types.specs.declared.part.MapPart.{MapPart}
@@ -22,7 +24,7 @@ use Rattle.witness_types.specs.Parts.{IsInOrder, pair_tables, map_tables}
 use Rattle.witness_types.specs.Rows.{rows_of}
 use Rattle.witness_types.specs.Texts.{text_by}
 use Rattle.witness_writing.specs.Runs.{table_at}
-use Rattle.witness_parts.specs.Tables.{section_by, AreTablesOf}
+use Rattle.witness_parts.specs.Tables.{section_by, AreTablesOf, IsPartOf}
 use Rattle.map_parts.specs.Values.{AreFiledContractions}
 use Rattle.map_parts.specs.Images.{AreFiledImages}
 
@@ -98,18 +100,27 @@ pub record AreInducedTables (p top : ℕ) (f : List Naming) (x a y b : List (Lis
   pub count : length ms ≡ top + 1
   pub each : (k : ℕ) → k < length ms → IsInducedTable p f x a y b X Y k (table_at ms k)
 
+-- the part is that of a section of the pair of x and a up to a last degree, and there is a matrix in
+-- each degree up to it: that of every carried map in the cycles of this section and of Y
+pub record IsDomainPart (p top : ℕ) (f : List Naming) (x a y b : List (List Factor)) (Y : Section)
+    (ms : List Table) (part : PairPart p) : Type 0 where
+  pub X : Section
+  pub is_section : IsSection p x a (relative_cells x a) X
+  pub cochains : (k i : ℕ) → i < X.size k → IsChain p (relative_complex p x a) k (X.cocycle k i)
+  pub part_of : IsPartOf top x a X part
+  pub matrices : AreInducedTables p top f x a y b X Y ms
+
 -- ---- files
 
--- the bytes have a header for this modulus and a map, and lines that are accepted; the cycles, the
--- cocycles and the chains of the cells are those of the bases, and the matrices are these
-pub record IsMapWitness (p : ℕ) (f : Mapping) (x a y b : Members)
-    (cells : List (List Factor)) (A : BasisOfLog) (others : List (List Factor)) (B : BasisOfLog)
-    (ms : List Table) (bytes : List ℕ) : Type 0 where
-  pub tables : PairTables
+-- the bytes have a header for this modulus and a map, and lines that are accepted, with the tables
+-- of this part of the domain; the cycles, the cocycles and the contraction of the range are those
+-- of the basis, and the matrices are these
+pub record IsMapWitness (p : ℕ) (f : Mapping) (x a y b : Members) (part : PairPart p)
+    (cells : List (List Factor)) (B : BasisOfLog) (ms : List Table) (bytes : List ℕ)
+    : Type 0 where
   pub more : MapTables
   pub header : IsHeader bytes (record { version = 1; modulus = p; kind = kinds.Map })
   pub accepted : IsAccepted (tables_format p (given_map f x a y b)) (body_of bytes)
-      (map_value tables more)
-  pub made : AreTablesOf p (top_of_map f x a y b) x.cells a.cells (section_by p cells A) tables
-  pub made_map : AreMapTablesOf p (top_of_map f x a y b) f.named x.cells a.cells y.cells b.cells
-      (section_by p others B) ms more
+      (map_value (pair_tables (top_of_map f x a y b) part) more)
+  pub made : AreMapTablesOf p (top_of_map f x a y b) f.named x.cells a.cells y.cells b.cells
+      (section_by p cells B) ms more

@@ -8,4 +8,4 @@ mod values;
 mod witness;
 
 pub use part::map_part;
-pub use witness::map_witness;
+pub use witness::{domain_part, map_witness};

@@ -1,16 +1,18 @@
 //! The witness file of a map.
-ghost use Rattle.std.specs.Prelude.{◌≡◌, ◌<◌, ◌==◌, ℕ, length, if◌then◌else◌, IfOk};
+ghost use Rattle.std.specs.Prelude.{◌≡◌, ◌<◌, ◌≤◌, ◌==◌, ℕ, length, if◌then◌else◌, IfOk, IsTrue};
+ghost use Rattle.cube_sets.specs.Sets.{dimensions_agree};
 ghost use Rattle.cell_complex.specs.Numbering.{IsRelativeComplex};
 ghost use Rattle.leray_conley.specs.Tables.{IsTable};
 ghost use Rattle.map_checks.specs.Carriers.{AreOfOneDimension};
 ghost use Rattle.map_checks.specs.Faults.{HasNoSetFault};
+ghost use Rattle.witness_laws.specs.Inputs.{all_cells};
 ghost use Rattle.witness_laws.specs.Tables.{tables_format};
 ghost use Rattle.witness_types.specs.Inputs.{IsWithinTables};
 ghost use Rattle.witness_types.specs.Parts.{IsInOrder};
 ghost use Rattle.witness_types.specs.Texts.{IsWritable};
 ghost use Rattle.witness_writing.specs.Runs.{table_at};
-ghost use Rattle.witness_parts.specs.Tables.{section_by};
-ghost use Rattle.map_parts.specs.Maps.{IsCarryingOf, AreInducedTables, IsMapWitness};
+ghost use Rattle.witness_parts.specs.Tables.{section_by, IsPartOf};
+ghost use Rattle.map_parts.specs.Maps.{IsCarryingOf, IsDomainPart, IsMapWitness};
 ghost use Rattle.map_parts.specs.Maps.{top_of_map, given_map, value_of_parts, map_text};
 
 use crate::part::map_part;
@@ -98,9 +100,34 @@ fn see_tables<const P: u16>(matrices: &[Matrix<P>])
     }
 }
 
+/// The part of the pair of x and a in a witness of a map from it to the pair of y and b, by a basis
+/// of its homology over its relative cells.
+pub fn domain_part<const P: u16>(
+    alloc: Global,
+    field: Field<P>,
+    cube_map: &CubeMap,
+    x: &CubeSet,
+    a: &CubeSet,
+    y: &CubeSet,
+    b: &CubeSet,
+    cells: &Numbered,
+    basis: &Basis<P>,
+) -> Result<PairPart<P>, NoMemory>
+    requires agree { IsTrue (dimensions_agree x.now.dimension a.now.dimension) }
+    requires few { length (all_cells x.now.cells a.now.cells) ≤ 4096 }
+    requires relative { IsRelativeComplex P x.now.cells a.now.cells cells.now
+        basis.now.log.complex }
+    ensures { IfOk result (IsPartOf (top_of_map cube_map.now x.now a.now y.now b.now) x.now.cells
+        a.now.cells (section_by P cells.now basis.now)) }
+{
+    let top = known_of_map(cube_map, x, a, y, b);
+    let part = pair_part(alloc, field, x, a, cells, basis, top)?;
+    Ok(part)
+}
+
 /// The text of a witness of the map from the pair of x and a to that of y and b, which the
-/// selector's carrier keeps, by bases over the relative cells of both pairs and the matrices in
-/// these. It is accepted, and has the cycles of the bases and the matrices.
+/// selector's carrier keeps: by the part of the domain, by a basis over the relative cells of the
+/// range, and by the matrices in both. It is accepted, and has this part and these matrices.
 pub fn map_witness<const P: u16>(
     alloc: Global,
     field: Field<P>,
@@ -109,10 +136,9 @@ pub fn map_witness<const P: u16>(
     a: &CubeSet,
     y: &CubeSet,
     b: &CubeSet,
-    domain_cells: &Numbered,
-    domain: &Basis<P>,
-    range_cells: &Numbered,
-    range: &Basis<P>,
+    domain: &PairPart<P>,
+    cells: &Numbered,
+    basis: &Basis<P>,
     selector: &mut Selector<P>,
     matrices: Vec<Matrix<P>>,
 ) -> Result<Vec<u8>, NoMemory>
@@ -122,41 +148,24 @@ pub fn map_witness<const P: u16>(
     requires limits { IsWithinTables (given_map cube_map.now x.now a.now y.now b.now) }
     requires carrying { IsCarryingOf selector.old.carrying cube_map.now.named x.now.cells
         a.now.cells y.now.cells b.now.cells }
-    requires relative { IsRelativeComplex P x.now.cells a.now.cells domain_cells.now
-        domain.now.log.complex }
-    requires range_relative { IsRelativeComplex P y.now.cells b.now.cells range_cells.now
-        range.now.log.complex }
-    requires matrices { AreInducedTables P (top_of_map cube_map.now x.now a.now y.now b.now)
+    requires relative { IsRelativeComplex P y.now.cells b.now.cells cells.now
+        basis.now.log.complex }
+    requires domain { IsDomainPart P (top_of_map cube_map.now x.now a.now y.now b.now)
         cube_map.now.named x.now.cells a.now.cells y.now.cells b.now.cells
-        (section_by P domain_cells.now domain.now) (section_by P range_cells.now range.now)
-        matrices.items }
+        (section_by P cells.now basis.now) matrices.items domain.now }
     ensures { IfOk result (λ bytes. IsMapWitness P cube_map.now x.now a.now y.now b.now
-        domain_cells.now domain.now range_cells.now range.now matrices.entry.items bytes.items) }
+        domain.now cells.now basis.now matrices.entry.items bytes.items) }
 {
     // Their clauses say what sets, cells and bases are.
     let _members = x.len();
     let _range_members = y.len();
-    let _count = domain_cells.len();
-    let _range_count = range_cells.len();
-    let _dimension = domain.dimension(0);
-    let _range_dimension = range.dimension(0);
+    let _count = cells.len();
+    let _dimension = basis.dimension(0);
     see_tables(&matrices);
     let top = known_of_map(cube_map, x, a, y, b);
-    let part = pair_part(alloc, field, x, a, domain_cells, domain, top)?;
     let more = map_part(
-        alloc,
-        field,
-        cube_map,
-        x,
-        a,
-        y,
-        b,
-        range_cells,
-        range,
-        top,
-        selector,
-        matrices,
+        alloc, field, cube_map, x, a, y, b, cells, basis, top, selector, matrices,
     )?;
-    let text = written(alloc, field, cube_map, x, a, y, b, &part, &more)?;
+    let text = written(alloc, field, cube_map, x, a, y, b, domain, &more)?;
     Ok(text)
 }

@@ -7,7 +7,7 @@ use Rattle.map_parts.proofs.Holding.{parts_accepted, parts_written}
 use Rattle.map_parts.proofs.witness.map_witness.Goals as goal
 
 pub written-requires-clause-order : goal.written-requires-clause-order
-written-requires-clause-order g c = subst (λ (t : ℕ). IsInOrder t c.in_ok-part.part) c.known_of_map-top.ensures c.in_ok-part.ensures.order
+written-requires-clause-order g c = c.requires.domain.part_of.order
 
 pub written-requires-clause-range_order : goal.written-requires-clause-range_order
 written-requires-clause-range_order g c = subst (λ (t : ℕ). IsInOrder t c.in_ok-more.more.range) c.known_of_map-top.ensures c.in_ok-more.ensures.order
@@ -16,15 +16,17 @@ pub written-requires-clause-parts : goal.written-requires-clause-parts
 written-requires-clause-parts g c =
     let p = g.row.P in
     let one : 1 ≤ p = omega (arith, two_le p c.args.field.listed) in
-    let acc = parts_accepted p c.args.cube_map.now c.args.x.now c.args.a.now c.args.y.now c.args.b.now c.args.domain_cells.now c.args.domain.now c.args.range_cells.now c.args.range.now c.args.matrices.items one c.requires.alike c.requires.faultless
-    c.len-members.ensures.set c.len-range_members.ensures.set c.len-count.ensures.sorted c.len-range_count.ensures.sorted c.requires.relative c.requires.range_relative c.dimension-dimension.ensures.basis c.dimension-range_dimension.ensures.basis
-    c.requires.matrices (subst (λ (ms : List Table). (k : ℕ) → k < length ms → IsTable p (table_at ms k)) c.deref.ensures.value c.see_tables.ensures) c.known_of_map-top.result c.known_of_map-top.ensures c.in_ok-part.part c.in_ok-more.more c.in_ok-part.ensures c.in_ok-more.ensures in
+    let acc = parts_accepted p c.args.cube_map.now c.args.x.now c.args.a.now c.args.y.now c.args.b.now c.args.cells.now c.args.basis.now c.args.matrices.items one c.requires.alike c.requires.faultless
+    c.len-members.ensures.set c.len-range_members.ensures.set c.len-count.ensures.sorted c.requires.relative c.dimension-dimension.ensures.basis
+    (subst (λ (ms : List Table). (k : ℕ) → k < length ms → IsTable p (table_at ms k)) c.deref.ensures.value c.see_tables.ensures)
+    c.known_of_map-top.result c.known_of_map-top.ensures c.args.domain.now c.in_ok-more.more c.requires.domain c.in_ok-more.ensures in
     record { fits = acc.fits; first = acc.meets.first }
 
 pub returns : goal.returns
 returns g c =
     let p = g.row.P in
     let one : 1 ≤ p = omega (arith, two_le p c.args.field.listed) in
-    parts_written p c.args.cube_map.now c.args.x.now c.args.a.now c.args.y.now c.args.b.now c.args.domain_cells.now c.args.domain.now c.args.range_cells.now c.args.range.now c.args.matrices.items one c.requires.alike c.requires.faultless
-    c.len-members.ensures.set c.len-range_members.ensures.set c.len-count.ensures.sorted c.len-range_count.ensures.sorted c.requires.relative c.requires.range_relative c.dimension-dimension.ensures.basis c.dimension-range_dimension.ensures.basis
-    c.requires.matrices (subst (λ (ms : List Table). (k : ℕ) → k < length ms → IsTable p (table_at ms k)) c.deref.ensures.value c.see_tables.ensures) c.known_of_map-top.result c.known_of_map-top.ensures c.in_ok-part.part c.in_ok-more.more c.in_ok-part.ensures c.in_ok-more.ensures c.args.field.listed c.in_ok-text.text.items c.in_ok-text.ensures
+    parts_written p c.args.cube_map.now c.args.x.now c.args.a.now c.args.y.now c.args.b.now c.args.cells.now c.args.basis.now c.args.matrices.items one c.requires.alike c.requires.faultless
+    c.len-members.ensures.set c.len-range_members.ensures.set c.len-count.ensures.sorted c.requires.relative c.dimension-dimension.ensures.basis
+    (subst (λ (ms : List Table). (k : ℕ) → k < length ms → IsTable p (table_at ms k)) c.deref.ensures.value c.see_tables.ensures)
+    c.known_of_map-top.result c.known_of_map-top.ensures c.args.domain.now c.in_ok-more.more c.requires.domain c.in_ok-more.ensures c.args.field.listed c.in_ok-text.text.items c.in_ok-text.ensures
