@@ -1,5 +1,5 @@
 -- What is written for a map is accepted.
-use Rattle.std.proofs.Common.{◌≡◌, ◌≢◌, ◌⊎◌, ℕ, ◌+◌, ◌<◌, ◌≤◌, refl, sym, ap, ◌∙◌, arith, inl, inr, ⊎_elim, List, [], ◌∷◌, ◌++◌, length, take, drop, true, false, cond, eqb, eqb-true, eq-eqb, ne_eqb, append_assoc, subst}
+use Rattle.std.proofs.Common.{◌≡◌, ◌≢◌, ◌⊎◌, ℕ, ◌+◌, ◌<◌, ◌≤◌, refl, sym, ap, ◌∙◌, arith, inl, inr, ⊎_elim, List, [], ◌∷◌, ◌++◌, length, max, take, drop, true, false, cond, eqb, eqb-true, eq-eqb, ne_eqb, append_assoc, subst}
 use Rattle.std.proofs.lemmas.Bool.{true≢false, or_cases, cases_eq, cond_both}
 use Rattle.std.proofs.lemmas.List.{append-nil}
 use Rattle.std.proofs.lemmas.List.Elements.{All-from_recursion, All-map}
@@ -86,6 +86,34 @@ module _ (f : Mapping) (x a y b : Members) (one : AreOfOneDimension f x a y b) w
       (λ v. let l = two_known x.dimension y.dimension b.dimension (agreed x.dimension y.dimension one.x_y v.0) (agreed x.dimension b.dimension one.x_b v.0) in omega (arith, l, u.1, v.1))
       (first_is x.dimension (a.dimension ∷ y.dimension ∷ b.dimension ∷ [])))
       (λ u. let l = two_known m y.dimension b.dimension (agreed m y.dimension one.map_y u.0) (agreed m b.dimension one.map_b u.0) in omega (arith, l, u.1))
+      (first_is m (x.dimension ∷ a.dimension ∷ y.dimension ∷ b.dimension ∷ []))
+
+  -- the first known dimension is the greatest
+  pub top_is_greatest : t ≡ max m (max (max x.dimension a.dimension) (max y.dimension b.dimension))
+  top_is_greatest = ⊎_elim
+      (λ u. ⊎_elim
+      (λ v. ⊎_elim
+      (λ w. ⊎_elim
+      (λ r. ⊎_elim
+      (λ s. omega (arith, u.0, u.1, v.0, v.1, w.0, w.1, r.0, r.1, s.0, s.1))
+      (λ s. omega (arith, u.0, u.1, v.0, v.1, w.0, w.1, r.0, r.1, s.1))
+      (first_is b.dimension []))
+      (λ r. let l = agreed y.dimension b.dimension one.y_b r.0 in omega (arith, u.0, u.1, v.0, v.1, w.0, w.1, r.1, l))
+      (first_is y.dimension (b.dimension ∷ [])))
+      (λ w. let l = agreed a.dimension y.dimension one.a_y w.0 in let k = agreed a.dimension b.dimension one.a_b w.0 in omega (arith, u.0, u.1, v.0, v.1, w.1, l, k))
+      (first_is a.dimension (y.dimension ∷ b.dimension ∷ [])))
+      (λ v.
+      let j = agreed x.dimension a.dimension one.x_a v.0 in
+      let l = agreed x.dimension y.dimension one.x_y v.0 in
+      let k = agreed x.dimension b.dimension one.x_b v.0 in
+      omega (arith, u.0, u.1, v.1, j, l, k))
+      (first_is x.dimension (a.dimension ∷ y.dimension ∷ b.dimension ∷ [])))
+      (λ u.
+      let i = agreed m x.dimension one.map_x u.0 in
+      let j = agreed m a.dimension one.map_a u.0 in
+      let l = agreed m y.dimension one.map_y u.0 in
+      let k = agreed m b.dimension one.map_b u.0 in
+      omega (arith, u.1, i, j, l, k))
       (first_is m (x.dimension ∷ a.dimension ∷ y.dimension ∷ b.dimension ∷ []))
 
   pub most_x : IsCubeSet x → HasAtMost t x.cells a.cells

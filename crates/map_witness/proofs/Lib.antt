@@ -1,0 +1,5 @@
+pub mod Measuring
+pub mod Limiting
+pub mod Judging
+pub mod Printing
+pub mod Computing
