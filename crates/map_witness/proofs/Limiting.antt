@@ -1,5 +1,5 @@
 -- What refuses a map within the limits of a witness, step by step.
-use Rattle.std.proofs.Common.{◌≡◌, ◌<◌, ◌≤◌, ◌⊎◌, inl, inr, ⊎_elim, ℕ, List, ◌++◌, length, arith}
+use Rattle.std.proofs.Common.{◌≡◌, ◌<◌, ◌≤◌, ◌⊎◌, inl, inr, ⊎_elim, ℕ, List, ◌++◌, length, arith, Bool}
 use Rattle.elem_cubes.specs.Cells.{Factor}
 use Rattle.cell_complex.specs.CellCount.{cell_count}
 use Rattle.faults.specs.declared.fault.Fault.{Fault}
@@ -58,6 +58,10 @@ module _ (p : ℕ) (m : PairMap) (fault : Fault) where
       → RefusesLimits p m fault ⊎ (fault ≡ OutOfMemory)
   size_refused small none (inl r) = inl (inr (inr (small, record { allowed = none; more = r.0 }, r.1)))
   size_refused small none (inr e) = inr e
+
+pub limits_refused : (p : ℕ) (wanted : Bool) (m : PairMap) (fault : Fault) → RefusesLimits p m fault ⊎ (fault ≡ OutOfMemory) → RefusesMapWitness p wanted m fault ⊎ (fault ≡ OutOfMemory)
+limits_refused p wanted m fault (inl r) = inl (inl r)
+limits_refused p wanted m fault (inr e) = inr e
 
 -- ---- a map within the limits
 
