@@ -5,6 +5,7 @@ ghost use Rattle.chains.specs.Terms.{coefficient};
 ghost use Rattle.homology_basis.specs.Bases.{in_degree, homotopy_in, IsBasisWithContraction};
 
 use crate::classes::Classes;
+use crate::cycles::CycleBasis;
 use algebraic_reduction::Log;
 use chains::{Chain, Complex};
 use field_mod::Field;
@@ -70,6 +71,14 @@ impl<const P: u16> Basis<P> {
         ensures { result.now ≡ slice_index_or (in_degree self.now.cocycles k) j [] }
     {
         self.classes.of_degree(k)[j as usize].cocycle()
+    }
+
+    /// The same cycles, alone.
+    pub fn without_cocycles(self) -> CycleBasis<P>
+        ensures { result ≡ record { log = self.entry.log; cycles = self.entry.cycles } }
+    {
+        let Basis { log, classes } = self;
+        CycleBasis { log, classes }
     }
 
     /// The chain h of a generator. It is made at each call.
