@@ -71,7 +71,7 @@ module _ (p : ℕ) (is_modulus : IsModulus p) where
         (λ free. inr (allowed p wanted m none (λ fault _ r. free fault r)))
         (indices.index_found p m (is_field p is_modulus) (pairs.few_domain m few) (pairs.few_range m few))
 
-    found : (m : PairMap) → ((fault : Fault) × RefusesMapHomology p wanted m fault) ⊎ IsAllowed (RefusesMapHomology p wanted) m
+    pub found : (m : PairMap) → ((fault : Fault) × RefusesMapHomology p wanted m fault) ⊎ IsAllowed (RefusesMapHomology p wanted) m
     found m = ⊎_elim
         (λ (fault, r). inl (fault, inl r))
         (λ none. ⊎_elim
@@ -80,13 +80,13 @@ module _ (p : ℕ) (is_modulus : IsModulus p) where
         (cases_Bool wanted))
         (matrices_found m)
 
-    alike : (m : PairMap) (f g : Fault) → RefusesMapHomology p wanted m f → RefusesMapHomology p wanted m g → without_chain f ≡ without_chain g
+    pub alike : (m : PairMap) (f g : Fault) → RefusesMapHomology p wanted m f → RefusesMapHomology p wanted m g → without_chain f ≡ without_chain g
     alike m f g (inl r) (inl s) = matrices_alike m f g r s
     alike m f g (inl r) (inr s) = absurd (s.1 f r)
     alike m f g (inr r) (inl s) = absurd (r.1 g s)
     alike m f g (inr r) (inr s) = indices.index_alike p m f g r.2 s.2
 
-    before : (m : PairMap) (fault : Fault) → RefusesMapHomology p wanted m fault → status_of fault ≢ statuses.Write
+    pub before : (m : PairMap) (fault : Fault) → RefusesMapHomology p wanted m fault → status_of fault ≢ statuses.Write
     before m fault (inl r) = matrices_before m fault r
     before m fault (inr r) = indices.index_before p m fault r.2
 

@@ -71,7 +71,7 @@ pub(crate) fn domain_basis<const P: u16>(
 }
 
 /// The cells of a pair, and a basis of its homology with dual cocycles.
-pub(crate) fn range_basis<const P: u16>(
+pub fn range_basis<const P: u16>(
     alloc: Global,
     field: Field<P>,
     y: &CubeSet,

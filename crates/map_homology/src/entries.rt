@@ -12,7 +12,7 @@ const MATRIX_ENTRIES: u64 = 16_777_216;
 
 /// Nothing where no matrix of a degree up to a last one would have too many entries, else the
 /// limit.
-pub(crate) fn test_entries<const P: u16>(
+pub fn test_entries<const P: u16>(
     domain: &CycleBasis<P>,
     range: &Basis<P>,
     last: u8,

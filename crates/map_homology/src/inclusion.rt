@@ -18,7 +18,7 @@ use std::alloc::Global;
 
 /// Nothing where the index part is not wanted or the pair of the domain is included in that of the
 /// range, else the first cube that shows that it is not.
-pub(crate) fn test_inclusion(input: &PairMap, wanted: bool) -> Result<(), Fault>
+pub fn test_inclusion(input: &PairMap, wanted: bool) -> Result<(), Fault>
     ensures included { OnOk result (IsTrue wanted → IsIncluded input.now.x.cells input.now.a.cells
         input.now.y.cells input.now.b.cells) }
     ensures fault { IfErr result (λ fault. IsTrue wanted × RefusesInclusion input.now fault) }
@@ -30,7 +30,7 @@ pub(crate) fn test_inclusion(input: &PairMap, wanted: bool) -> Result<(), Fault>
 }
 
 /// The index part of some induced matrices where it is wanted.
-pub(crate) fn index_of<const P: u16>(
+pub fn index_of<const P: u16>(
     alloc: Global,
     field: Field<P>,
     domain: &CycleBasis<P>,

@@ -9,5 +9,9 @@ mod map_job;
 mod parts;
 mod reporting;
 
+pub use bases::{PairCells, range_basis};
+pub use entries::test_entries;
+pub use inclusion::{index_of, test_inclusion};
 pub use laws::map_jobs_have_one_judgement;
 pub use map_job::{MapJob, homology_of_map};
+pub use parts::part_of;

@@ -37,7 +37,7 @@ pub struct MapJob {
 
 impl MapJob {
     /// How the report is printed.
-    fn shown(&self) -> Shown
+    pub fn shown(&self) -> Shown
         ensures { result ≡ shown_of self.now }
     {
         Shown {

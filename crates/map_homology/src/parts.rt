@@ -11,7 +11,7 @@ use std::alloc::{AllocError as NoMemory, Global};
 
 /// What is printed on a pair: the dimensions and the cycles of a basis by degree from 0 to `most`,
 /// and the counts.
-pub(crate) fn part_of<B: HasCycles>(
+pub fn part_of<B: HasCycles>(
     alloc: Global,
     pair: PairCells,
     basis: &B,

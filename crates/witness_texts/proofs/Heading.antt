@@ -107,3 +107,6 @@ fault_modulus bytes rest fault v e n = at_line bytes fault 1 e (no_modulus bytes
 pub fault_kind : (bytes rest later : List ℕ) (p : ℕ) (fault : WitnessFault) → bytes ≡ version_line 1 ++ rest → IsModulus p → rest ≡ modulus_line p ++ later → fault ≡ At 3 laws.Header → ClaimsNothing later
     → IsHeaderFault bytes fault
 fault_kind bytes rest later p fault v known m e n = at_line bytes fault 2 e (no_kind bytes rest v p known later m n)
+
+-- what the first three lines show
+pub ruleset headings = (fault_version, fault_modulus, fault_kind, is_header)

@@ -13,7 +13,7 @@ use witness_types::{ClaimKind, Header, Law, WitnessFault};
 
 /// What the first three lines say; or the law `Header` at the first of them that is not one that
 /// may stand there. It takes no memory.
-#[tactic(auto, using(crate::proofs::Heading::fault_version, crate::proofs::Heading::fault_modulus, crate::proofs::Heading::fault_kind, crate::proofs::Heading::is_header))]
+#[tactic(auto, using(crate::proofs::Heading::headings))]
 pub fn header(bytes: &[u8]) -> Result<Header, WitnessFault>
     ensures ok { IfOk result (IsHeader bytes.now) }
     ensures err { IfErr result (IsHeaderFault bytes.now) }
