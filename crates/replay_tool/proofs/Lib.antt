@@ -4,7 +4,6 @@ pub mod Judging
 pub mod Computing
 pub mod Telling
 pub mod Measuring
-pub mod Growing
 pub mod Sets
 pub mod Judged
 pub mod Testing

@@ -1,13 +1,14 @@
 -- What is promised of the test of a witness.
-use Rattle.std.specs.Prelude.{◌≡◌, ◌⊎◌, ℕ, List, Option, None, Some, map, Result, Ok, Err}
+use Rattle.std.specs.Prelude.{◌≡◌, ◌⊎◌, ℕ, List, [], length, Option, None, Some, Result, Ok, Err}
 use Rattle.faults.specs.declared.fault.Fault.{Fault}
 use Rattle.faults.specs.declared.fault.Fault.TheVariants.{OutOfMemory}
 use Rattle.witness_laws.specs.Inputs.{Given}
 use Rattle.report.specs.declared.accepted.Accepted.{Accepted}
 use Rattle.report.specs.declared.accepted.AcceptedMap.{AcceptedMap}
 use Rattle.witness_types.specs.declared.part.Claim.{Claim}
-use Rattle.witness_types.specs.Rows.{rows_of}
-use Rattle.replay_tool.specs.Tables.{AreRanksOf}
+use Rattle.induced_map.specs.Matrices.{nth}
+use Rattle.index_part.specs.Filled.{IsFilled}
+use Rattle.index_part.specs.Tables.{AreRowsOf, IsRankOf}
 use Rattle.replay_tool.specs.Right.{IsRightReport}
 use Rattle.replay_tool.specs.Refusals.{FailsBy}
 
@@ -25,8 +26,10 @@ pub record TellsPair {p : ℕ} (claim : Claim p) (report : Accepted) : Type 0 wh
 abbrev pub TellsTarget : (p : ℕ) → Claim p → Option AcceptedMap → Type 0
 TellsTarget p claim None = ⊥
 TellsTarget p claim (Some report) = (report.range ≡ claim.range.items)
-    × (report.matrices.items ≡ map rows_of claim.matrices.items)
-    × AreRanksOf p claim.matrices.items report.ranks
+    × IsFilled [] (λ k. AreRowsOf p (nth claim.matrices.items k)) (length claim.matrices.items)
+      report.matrices.items
+    × IsFilled 0 (λ k. IsRankOf p (nth claim.matrices.items k)) (length claim.matrices.items)
+      report.ranks
 
 pub record TellsMap (p : ℕ) (claim : Claim p) (report : Accepted) : Type 0 where
   pub domain : report.domain ≡ claim.domain.items

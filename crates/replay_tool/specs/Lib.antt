@@ -1,6 +1,5 @@
 -- What the tool on witness files is asked to do.
 pub mod Inputs
-pub mod Tables
 pub mod Right
 pub mod Refusals
 pub mod Jobs

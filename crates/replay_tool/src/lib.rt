@@ -9,7 +9,6 @@ mod limits;
 mod replaying;
 mod sizes;
 mod subjects;
-mod tables;
 mod told;
 
 pub use inputs::{ReplayFiles, ReplayJob, Subject};
