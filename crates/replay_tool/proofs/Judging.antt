@@ -16,7 +16,8 @@ use Rattle.witness_types.specs.Headers.{body_of}
 use Rattle.replay_tool.specs.declared.inputs.Subject.{Subject}
 use Rattle.replay_tool.specs.declared.inputs.Subject.TheVariants as subjects
 use Rattle.replay_tool.specs.Inputs.{Testimony, given_of}
-use Rattle.replay_tool.specs.Refusals.{most_carried, carrier_size, HasTooMany, HasFew, RefusesSets, RefusesSubject, IsSound, told_law, FailsBy, IsReady, RefusesReading, RefusesTestimony}
+use Rattle.witness_limits.specs.Limits.{most_carried, carrier_size, HasTooMany, HasFew}
+use Rattle.replay_tool.specs.Refusals.{RefusesSets, RefusesSubject, IsSound, told_law, FailsBy, IsReady, RefusesReading, RefusesTestimony}
 
 -- ---- limits
 

@@ -3,7 +3,6 @@ pub mod Files
 pub mod Judging
 pub mod Computing
 pub mod Telling
-pub mod Measuring
 pub mod Sets
 pub mod Judged
 pub mod Testing

@@ -10,7 +10,8 @@ use Rattle.witness_laws.specs.Inputs.{Given, all_cells}
 use Rattle.replay_tool.specs.declared.inputs.Subject.{Subject}
 use Rattle.replay_tool.specs.declared.inputs.Subject.TheVariants as subjects
 use Rattle.replay_tool.specs.Inputs.{given_of}
-use Rattle.replay_tool.specs.Refusals.{most_cells, most_carried, domain_count, carrier_size, HasFew, RefusesSets, IsSound, IsReady, RefusesReading}
+use Rattle.witness_limits.specs.Limits.{most_cells, most_carried, domain_count, carrier_size, HasFew}
+use Rattle.replay_tool.specs.Refusals.{RefusesSets, IsSound, IsReady, RefusesReading}
 
 -- ---- a pair
 

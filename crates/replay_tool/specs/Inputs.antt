@@ -1,16 +1,17 @@
 -- A witness file and what it speaks of, and the files that give them.
-use Rattle.std.specs.Prelude.{◌≡◌, ◌≢◌, ◌⊎◌, ℕ, List, [], ◌∷◌, None, Some, Result, Ok, Err, Vec}
+use Rattle.std.specs.Prelude.{◌≡◌, ◌≢◌, ◌⊎◌, ℕ, List, [], ◌∷◌, None, Result, Ok, Err, Vec}
 use Rattle.faults.specs.declared.fault.Fault.{Fault}
 use Rattle.faults.specs.declared.fault.Fault.TheVariants.{LawFails}
 use Rattle.faults.specs.declared.law.Law.TheVariants as told
 use Rattle.witness_laws.specs.declared.law.Law.TheVariants as laws
 use Rattle.witness_laws.specs.declared.law.WitnessFault.TheVariants.{At}
-use Rattle.witness_laws.specs.Inputs.{Given, Target}
+use Rattle.witness_laws.specs.Inputs.{Given}
 use Rattle.witness_types.specs.declared.heading.ClaimKind.{ClaimKind}
 use Rattle.witness_types.specs.declared.heading.ClaimKind.TheVariants as kinds
 use Rattle.witness_types.specs.declared.heading.Header.{Header}
 use Rattle.witness_types.specs.Headers.{IsHeader, IsHeaderFault}
 use Rattle.witness_types.specs.Inputs.{first_known}
+use Rattle.witness_limits.specs.Maps.{given_of_map}
 use Rattle.loading.specs.Steps.{Then, Is}
 use Rattle.loading.specs.Readings.{Reading, Finds}
 use Rattle.loading.specs.TwoSets.{two_names, two_bytes, AreTwoSetsIn, AreOperands}
@@ -92,10 +93,6 @@ IsSubjectIn (files.Pair x a) read =
 IsSubjectIn (files.Map map) read =
     Then (IsPairMapIn map read) (λ m. Is (Ok (subjects.Map m)))
 
--- the map, and the pair to which it goes
-abbrev pub target_of_map : PairMap → Target
-target_of_map m = record { map = m.map.named; y = m.y.cells; b = m.b.cells }
-
 -- what the laws of witnesses are told of it
 abbrev pub given_of : Subject → Given
 given_of (subjects.Pair sets) = record {
@@ -104,13 +101,7 @@ given_of (subjects.Pair sets) = record {
   a = sets.y.cells;
   target = None;
 }
-given_of (subjects.Map m) = record {
-  top = first_known (m.map.dimension ∷ m.x.dimension ∷ m.a.dimension ∷ m.y.dimension
-      ∷ m.b.dimension ∷ []);
-  x = m.x.cells;
-  a = m.a.cells;
-  target = Some (target_of_map m);
-}
+given_of (subjects.Map m) = given_of_map m
 
 abbrev pub kind_of_subject : Subject → ClaimKind
 kind_of_subject (subjects.Pair sets) = kinds.Pair

@@ -1,7 +1,6 @@
 -- What refuses a witness file: too many cells, sets that the map does not fit, too large values, and
 -- then the laws.
-use Rattle.std.specs.Prelude.{◌≡◌, ◌<◌, ◌≤◌, ◌⊎◌, ℕ, ◌*◌, List, length}
-use Rattle.field_mod.specs.Sums.{total}
+use Rattle.std.specs.Prelude.{◌≡◌, ◌<◌, ◌≤◌, ◌⊎◌, ℕ, List}
 use Rattle.map_checks.specs.Faults.{HasNoSetFault}
 use Rattle.faults.specs.declared.fault.Fault.{Fault}
 use Rattle.faults.specs.declared.fault.Fault.TheVariants.{Limit, Undefined, LeavesRange, LeavesSubset, LawFails}
@@ -11,45 +10,15 @@ use Rattle.faults.specs.declared.law.Law.TheVariants as told
 use Rattle.witness_laws.specs.declared.law.Law.{Law as WitnessLaw}
 use Rattle.witness_laws.specs.declared.law.Law.TheVariants as laws
 use Rattle.witness_laws.specs.declared.law.WitnessFault.TheVariants.{At}
-use Rattle.witness_laws.specs.Inputs.{Given, target_of, all_cells}
-use Rattle.witness_laws.specs.Parts.{value_at}
+use Rattle.witness_laws.specs.Inputs.{Given}
 use Rattle.witness_laws.specs.Tables.{tables_format}
 use Rattle.witness_types.specs.Answers.{IsFault}
+use Rattle.witness_limits.specs.Limits.{most_cells, most_carried, carrier_size, HasTooMany, HasFew}
 use Rattle.pair_maps.specs.declared.inputs.PairMap.{PairMap}
 use Rattle.pair_maps.specs.Refusals.{RefusesMapOf}
 use Rattle.replay_tool.specs.declared.inputs.Subject.{Subject}
 use Rattle.replay_tool.specs.declared.inputs.Subject.TheVariants as subjects
 use Rattle.replay_tool.specs.Inputs.{Testimony, given_of}
-
--- ---- limits
-
--- the most cells of the domain, and of the range
-abbrev pub most_cells : ℕ
-most_cells = 4096
-
--- the most that the squares of the lengths of all values may add up to
-abbrev pub most_carried : ℕ
-most_carried = 16777216
-
-abbrev pub domain_count : Given → ℕ
-domain_count G = length (all_cells G.x G.a)
-
--- without a map there is no range, and no value
-abbrev pub range_count : Given → ℕ
-range_count G = length (all_cells (target_of G).y (target_of G).b)
-
-abbrev pub square : ℕ → ℕ
-square n = n * n
-
-abbrev pub carrier_size : Given → ℕ
-carrier_size G = total (domain_count G) (λ i. square (length (value_at G i)))
-
-abbrev pub HasTooMany : Given → Type 0
-HasTooMany G = (most_cells < domain_count G) ⊎ (most_cells < range_count G)
-
-pub record HasFew (G : Given) : Type 0 where
-  pub domain : domain_count G ≤ most_cells
-  pub range : range_count G ≤ most_cells
 
 -- ---- the map and its sets
 

@@ -7,7 +7,6 @@ mod inputs;
 mod laws;
 mod limits;
 mod replaying;
-mod sizes;
 mod subjects;
 mod told;
 

@@ -3,8 +3,8 @@ use Rattle.std.proofs.lemmas.List.{get_or_read}
 use Rattle.elem_cubes.specs.Laws.{cell_at}
 use Rattle.cube_sets.specs.Closures.{cells_of}
 use Rattle.witness_laws.specs.Inputs.{all_cells}
-use Rattle.replay_tool.proofs.Measuring.{cell_inside, squares_more}
-use Rattle.replay_tool.proofs.sizes.squares.Goals as goal
+use Rattle.witness_limits.proofs.Measuring.{cell_inside, squares_more}
+use Rattle.witness_limits.proofs.sizes.squares.Goals as goal
 
 pub square_at-requires-clause-cell : goal.square_at-requires-clause-cell
 square_at-requires-clause-cell c =

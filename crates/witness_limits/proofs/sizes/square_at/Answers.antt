@@ -1,7 +1,7 @@
 use Rattle.std.proofs.Common.{ℕ, ◌≡◌, ◌≤◌, length, sym, ap, ◌∙◌, subst, arith}
-use Rattle.replay_tool.specs.Refusals.{square}
-use Rattle.replay_tool.proofs.Measuring.{made_is, square_few}
-use Rattle.replay_tool.proofs.sizes.square_at.Goals as goal
+use Rattle.witness_limits.specs.Limits.{square}
+use Rattle.witness_limits.proofs.Measuring.{made_is, square_few}
+use Rattle.witness_limits.proofs.sizes.square_at.Goals as goal
 
 pub overflow_mul-result : goal.overflow_mul-result
 overflow_mul-result c =

@@ -1,0 +1,3 @@
+-- The limits of a witness.
+pub mod Limits
+pub mod Maps
