@@ -14,7 +14,8 @@ use Rattle.pair_tool.specs.declared.homcubes.PairJob.{PairJob}
 use Rattle.pair_tool.specs.Jobs.{most_cells, cells_of_pair, RefusesPair}
 use Rattle.pair_tool.proofs.Judging.{few_allowed}
 use Rattle.witness_laws.specs.Inputs.{all_cells}
-use Rattle.pair_witness.specs.Jobs.{most_witness_cells, RefusesWitness, witness_task}
+use Rattle.witness_limits.specs.Limits.{most_witness_cells}
+use Rattle.pair_witness.specs.Jobs.{RefusesWitness, witness_task}
 
 abbrev all_of : TwoSets → ℕ
 all_of pair = length (all_cells pair.x.cells pair.y.cells)

@@ -15,18 +15,8 @@ use Rattle.pair_tool.specs.Jobs.{RefusesPair, IsHomologyOf, AreCountsOf, IsPairT
 use Rattle.tool.specs.Tasks.{Task, Written}
 use Rattle.witness_delivery.specs.Delivery.{whole}
 use Rattle.witness_laws.specs.Inputs.{all_cells}
+use Rattle.witness_limits.specs.Limits.{most_witness_cells}
 use Rattle.pair_witness.specs.Witnesses.{IsPairWitness}
-
--- the most cells of both sets whose chains a witness names
-abbrev pub most_witness_cells : ℕ
-most_witness_cells = 4096
-
--- both sets have more cells, or memory ran out
-abbrev pub HasManyCells : TwoSets → Fault → Type 0
-HasManyCells pair fault =
-    ((most_witness_cells < length (all_cells pair.x.cells pair.y.cells))
-    × (fault ≡ Limit WitnessCells most_witness_cells))
-    ⊎ (fault ≡ OutOfMemory)
 
 -- what refuses the pair without a witness, and then the cells of both sets
 abbrev pub RefusesWitness : TwoSets → Fault → Type 0

@@ -2,7 +2,6 @@
 #![tactic(auto)]
 
 mod bases;
-mod cells;
 mod homology;
 mod laws;
 mod making;

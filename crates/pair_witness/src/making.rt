@@ -7,13 +7,13 @@ ghost use Rattle.pair_witness.specs.Bases.{IsBasisOfReport};
 ghost use Rattle.pair_witness.specs.Jobs.{IsMade};
 
 use crate::bases::{PairBasis, pair_basis};
-use crate::cells::test_cells;
 use cell_complex::{CELLS, CellsFault};
 use faults::{Fault, LimitName};
 use field_mod::Field;
 use loading::TwoSets;
 use report::PairReport;
 use std::alloc::Global;
+use witness_limits::test_cells;
 use witness_parts::pair_witness;
 
 // What is not below it is no witness file.
@@ -33,7 +33,7 @@ pub(crate) fn made_over<const P: u16>(
         cells,
         basis,
     } = basis_of(alloc, field, pair)?;
-    test_cells(alloc, pair)?;
+    test_cells(alloc, &pair.x, &pair.y)?;
     let bytes = pair_witness(alloc, field, &pair.x, &pair.y, &cells, &basis)?;
     // At most 12,288 lines of at most 4,096 terms are fewer bytes; no proof says so.
     if bytes.len() >= WITNESS_BYTES {

@@ -10,7 +10,7 @@ use Rattle.witness_laws.specs.Inputs.{Given, all_cells}
 use Rattle.replay_tool.specs.declared.inputs.Subject.{Subject}
 use Rattle.replay_tool.specs.declared.inputs.Subject.TheVariants as subjects
 use Rattle.replay_tool.specs.Inputs.{given_of}
-use Rattle.witness_limits.specs.Limits.{most_cells, most_carried, domain_count, carrier_size, HasFew}
+use Rattle.witness_limits.specs.Limits.{most_witness_cells, most_carried, domain_count, carrier_size, HasFew}
 use Rattle.replay_tool.specs.Refusals.{RefusesSets, IsSound, IsReady, RefusesReading}
 
 -- ---- a pair
@@ -24,23 +24,23 @@ module _ (sets : TwoSets) where
   Speaks = subjects.Pair sets
 
   -- a pair has no values
-  pub pair_ready : length (all_cells sets.x.cells sets.y.cells) ≤ most_cells → IsReady Speaks
+  pub pair_ready : length (all_cells sets.x.cells sets.y.cells) ≤ most_witness_cells → IsReady Speaks
   pair_ready l =
       let e : carrier_size (given_of Speaks) ≡ 0 = no_sum (domain_count (given_of Speaks)) in
       record { sound = tt; few = record { domain = l; range = omega arith }; size = omega (arith, e) }
 
-  pub pair_refused : (fault : Fault) → ((most_cells < length (all_cells sets.x.cells sets.y.cells)) × (fault ≡ Limit WitnessCells most_cells)) ⊎ (fault ≡ OutOfMemory)
+  pub pair_refused : (fault : Fault) → ((most_witness_cells < length (all_cells sets.x.cells sets.y.cells)) × (fault ≡ Limit WitnessCells most_witness_cells)) ⊎ (fault ≡ OutOfMemory)
       → RefusesReading Speaks fault ⊎ (fault ≡ OutOfMemory)
   pair_refused fault (inl (m, e)) = inl (inl (inl m, e))
   pair_refused fault (inr e) = inr e
 
   module _ {A : Type 0} (subject : Subject) (is : subject ≡ Speaks) where
-    pub pair_on_ok : (result : Result A Fault) → OnOk result (length (all_cells sets.x.cells sets.y.cells) ≤ most_cells) → OnOk result (IsReady subject)
+    pub pair_on_ok : (result : Result A Fault) → OnOk result (length (all_cells sets.x.cells sets.y.cells) ≤ most_witness_cells) → OnOk result (IsReady subject)
     pair_on_ok (Ok made) l = subst IsReady (sym is) (pair_ready l)
     pair_on_ok (Err fault) l = tt
 
     pub pair_if_err : (result : Result A Fault)
-        → IfErr result (λ fault. ((most_cells < length (all_cells sets.x.cells sets.y.cells)) × (fault ≡ Limit WitnessCells most_cells)) ⊎ (fault ≡ OutOfMemory))
+        → IfErr result (λ fault. ((most_witness_cells < length (all_cells sets.x.cells sets.y.cells)) × (fault ≡ Limit WitnessCells most_witness_cells)) ⊎ (fault ≡ OutOfMemory))
         → IfErr result (λ fault. RefusesReading subject fault ⊎ (fault ≡ OutOfMemory))
     pair_if_err (Ok made) h = tt
     pair_if_err (Err fault) h = subst (λ (s : Subject). RefusesReading s fault ⊎ (fault ≡ OutOfMemory)) (sym is) (pair_refused fault h)
@@ -55,12 +55,12 @@ module _ (m : PairMap) where
   G = given_of Maps
 
   abbrev TooMany : ℕ → Fault → Type 0
-  TooMany n fault = ((most_cells < n) × (fault ≡ Limit WitnessCells most_cells)) ⊎ (fault ≡ OutOfMemory)
+  TooMany n fault = ((most_witness_cells < n) × (fault ≡ Limit WitnessCells most_witness_cells)) ⊎ (fault ≡ OutOfMemory)
 
   abbrev Refused : Fault → Type 0
   Refused fault = RefusesReading Maps fault ⊎ (fault ≡ OutOfMemory)
 
-  pub few_cells : length (all_cells m.x.cells m.a.cells) ≤ most_cells → length (all_cells m.y.cells m.b.cells) ≤ most_cells → HasFew G
+  pub few_cells : length (all_cells m.x.cells m.a.cells) ≤ most_witness_cells → length (all_cells m.y.cells m.b.cells) ≤ most_witness_cells → HasFew G
   few_cells l r = record { domain = l; range = r }
 
   pub domain_refused : (fault : Fault) → TooMany (length (all_cells m.x.cells m.a.cells)) fault → Refused fault

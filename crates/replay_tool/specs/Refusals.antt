@@ -13,7 +13,7 @@ use Rattle.witness_laws.specs.declared.law.WitnessFault.TheVariants.{At}
 use Rattle.witness_laws.specs.Inputs.{Given}
 use Rattle.witness_laws.specs.Tables.{tables_format}
 use Rattle.witness_types.specs.Answers.{IsFault}
-use Rattle.witness_limits.specs.Limits.{most_cells, most_carried, carrier_size, HasTooMany, HasFew}
+use Rattle.witness_limits.specs.Limits.{most_witness_cells, most_carried, carrier_size, HasTooMany, HasFew}
 use Rattle.pair_maps.specs.declared.inputs.PairMap.{PairMap}
 use Rattle.pair_maps.specs.Refusals.{RefusesMapOf}
 use Rattle.replay_tool.specs.declared.inputs.Subject.{Subject}
@@ -74,7 +74,7 @@ pub record IsReady (subject : Subject) : Type 0 where
 
 abbrev pub RefusesReading : Subject → Fault → Type 0
 RefusesReading subject fault =
-    (HasTooMany (given_of subject) × (fault ≡ Limit WitnessCells most_cells))
+    (HasTooMany (given_of subject) × (fault ≡ Limit WitnessCells most_witness_cells))
     ⊎ (HasFew (given_of subject) × RefusesSubject subject fault)
     ⊎ (HasFew (given_of subject) × IsSound subject
     × (most_carried < carrier_size (given_of subject)) × (fault ≡ Limit CarrierSize most_carried))

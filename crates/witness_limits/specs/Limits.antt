@@ -5,8 +5,8 @@ use Rattle.witness_laws.specs.Inputs.{Given, target_of, all_cells}
 use Rattle.witness_laws.specs.Parts.{value_at}
 
 -- the most cells of the domain, and of the range
-abbrev pub most_cells : ℕ
-most_cells = 4096
+abbrev pub most_witness_cells : ℕ
+most_witness_cells = 4096
 
 -- the most that the squares of the lengths of all values may add up to
 abbrev pub most_carried : ℕ
@@ -26,8 +26,8 @@ abbrev pub carrier_size : Given → ℕ
 carrier_size G = total (domain_count G) (λ i. square (length (value_at G i)))
 
 abbrev pub HasTooMany : Given → Type 0
-HasTooMany G = (most_cells < domain_count G) ⊎ (most_cells < range_count G)
+HasTooMany G = (most_witness_cells < domain_count G) ⊎ (most_witness_cells < range_count G)
 
 pub record HasFew (G : Given) : Type 0 where
-  pub domain : domain_count G ≤ most_cells
-  pub range : range_count G ≤ most_cells
+  pub domain : domain_count G ≤ most_witness_cells
+  pub range : range_count G ≤ most_witness_cells

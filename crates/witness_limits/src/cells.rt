@@ -3,7 +3,7 @@ ghost use Rattle.std.specs.Prelude.{◌≡◌, ◌<◌, ◌≤◌, ◌⊎◌, le
 ghost use Rattle.cube_sets.specs.Sets.{dimensions_agree};
 ghost use Rattle.loading.specs.Sets.{most_cubes};
 ghost use Rattle.witness_laws.specs.Inputs.{all_cells};
-ghost use Rattle.witness_limits.specs.Limits.{most_cells};
+ghost use Rattle.witness_limits.specs.Limits.{most_witness_cells};
 
 use cube_sets::{CubeSet, SetFault};
 use faults::{Fault, LimitName};
@@ -17,10 +17,10 @@ pub fn test_cells(alloc: Global, x: &CubeSet, a: &CubeSet) -> Result<(), Fault>
     requires agree { IsTrue (dimensions_agree x.now.dimension a.now.dimension) }
     requires few_x { length x.now.cells ≤ most_cubes }
     requires few_a { length a.now.cells ≤ most_cubes }
-    ensures few { OnOk result (length (all_cells x.now.cells a.now.cells) ≤ most_cells) }
+    ensures few { OnOk result (length (all_cells x.now.cells a.now.cells) ≤ most_witness_cells) }
     ensures fault { IfErr result (λ fault.
-        ((most_cells < length (all_cells x.now.cells a.now.cells))
-        × (fault ≡ Fault.Limit LimitName.WitnessCells most_cells))
+        ((most_witness_cells < length (all_cells x.now.cells a.now.cells))
+        × (fault ≡ Fault.Limit LimitName.WitnessCells most_witness_cells))
         ⊎ (fault ≡ Fault.OutOfMemory)) }
 {
     test_count(alloc, x, a, LimitName::WitnessCells, WITNESS_CELLS)
