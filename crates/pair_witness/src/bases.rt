@@ -1,15 +1,17 @@
 //! The homology of a pair with the basis that it is read off.
-ghost use Rattle.std.specs.Prelude.{◌≡◌, ◌<◌, ◌≤◌, IfOk, OnOk, Err};
-ghost use Rattle.pair_tool.specs.Jobs.{cells_of_pair, IsHomologyOf, AreCountsOf};
-ghost use Rattle.pair_witness.specs.Bases.{IsBasisOfReport};
+ghost use Rattle.std.specs.Prelude.{◌≡◌, ◌⊎◌, IfOk, OnOk, IfErr};
+ghost use Rattle.loading.specs.Jobs.{IsAllowed};
+ghost use Rattle.pair_tool.specs.Jobs.{RefusesPair, IsHomologyOf, AreCountsOf};
+ghost use Rattle.pair_witness.specs.Bases.{IsPreparedOf, IsBasisOfReport};
 
 use basis_reports::cycles_by_degree;
 use cell_complex::{CELLS, CellsFault, Numbered};
+use faults::{Fault, LimitName};
 use field_mod::Field;
 use homology_basis::{Basis, Prepared, basis, prepare};
 use loading::TwoSets;
 use report::PairReport;
-use std::alloc::Global;
+use std::alloc::{AllocError as NoMemory, Global};
 
 /// What is printed on a pair, its relative cells, and the basis whose cycles are printed.
 #[derive(Drop)]
@@ -22,20 +24,39 @@ pub struct PairBasis<const P: u16> {
     pub basis: Basis<P>,
 }
 
-/// The homology of a pair of sets, with the cells and the basis that it is read off.
-/// `TooManyCells` comes exactly where x and those members of a that meet it have together more than
-/// `CELLS` cells.
+/// The pair prepared for its basis, or the refusal of too many cells.
+pub(crate) fn prepared_of<const P: u16>(
+    alloc: Global,
+    field: Field<P>,
+    pair: &TwoSets,
+) -> Result<Prepared<P>, Fault>
+    ensures prepared { IfOk result (IsPreparedOf P pair.now) }
+    ensures few { OnOk result (IsAllowed RefusesPair pair.now) }
+    ensures fault { IfErr result
+        (λ fault. RefusesPair pair.now fault ⊎ (fault ≡ Fault.OutOfMemory)) }
+{
+    match prepare(alloc, field, &pair.x, &pair.y) {
+        Ok(made) => Ok(made),
+        Err(CellsFault::TooManyCells) => Err(Fault::Limit {
+            count: LimitName::Cells,
+            number: CELLS as u64,
+        }),
+        Err(CellsFault::NoMemory) => Err(Fault::OutOfMemory),
+    }
+}
+
+/// The homology of a pair that is prepared, with the cells and the basis that it is read off.
 pub(crate) fn pair_basis<const P: u16>(
     alloc: Global,
     field: Field<P>,
     pair: &TwoSets,
-) -> Result<PairBasis<P>, CellsFault>
+    prepared: Prepared<P>,
+) -> Result<PairBasis<P>, NoMemory>
+    requires { IsPreparedOf P pair.now prepared }
     ensures right { IfOk result (λ made.
         IsHomologyOf P pair.now made.report.dimensions made.report.cycles) }
     ensures counts { IfOk result (λ made. AreCountsOf P pair.now made.report) }
     ensures basis { IfOk result (IsBasisOfReport P pair.now) }
-    ensures few { OnOk result (cells_of_pair pair.now ≤ CELLS) }
-    ensures many { result ≡ Err CellsFault.TooManyCells → CELLS < cells_of_pair pair.now }
 {
     let most = pair.x.dimension().max(pair.y.dimension());
     let Prepared {
@@ -43,7 +64,7 @@ pub(crate) fn pair_basis<const P: u16>(
         grown,
         left,
         log,
-    } = prepare(alloc, field, &pair.x, &pair.y)?;
+    } = prepared;
     let count = cells.len();
     let basis = basis(alloc, field, log)?;
     let (dimensions, cycles) = cycles_by_degree(alloc, &cells, &basis, most)?;

@@ -12,5 +12,5 @@ returns g c =
         counts = made.ensures.counts;
         witness = witness_of_report g.row.P pair made.field-0 c.requires made.ensures.basis c.in_ok-bytes.bytes.items c.in_ok-bytes.ensures (omega (arith, c.len.ensures, c.in_ok-bytes.bytes.ok.0));
       },
-      allowed_so pair made.ensures.few c.in_ok-test_cells.ensures.few,
+      allowed_so pair c.in_ok-prepared.ensures.few c.in_ok-test_cells.ensures.few,
     )
