@@ -16,8 +16,12 @@ mod map_tests;
 #[cfg(test)]
 mod memory_tests;
 #[cfg(test)]
+mod replay_tests;
+#[cfg(test)]
 mod rows;
 #[cfg(test)]
 mod set_tests;
+#[cfg(test)]
+mod texts;
 #[cfg(test)]
 mod witness_tests;

@@ -1,5 +1,6 @@
 //! Whole runs of the tools on maps: their values, and the matrices that they induce.
 use crate::rows::{DONE, Row, all_answer};
+use crate::texts::{LINE, LONG, LONG_OUTER, MAP, OUTER};
 use faults::Status;
 use std::test::Fail;
 
@@ -8,19 +9,16 @@ const FILES: [(&str, &str); 20] = [
     ("two", "(0) (1)"),
     ("apart", "(0) (5)"),
     ("q", "(0 0)"),
-    ("x", "(-2) (-1) (0) (1)"),
-    ("y", "(-4) (-3) (-2) (-1) (0) (1) (2) (3)"),
-    (
-        "double",
-        "(-2) -> {(-4) (-3)}\n(-1) -> {(-2) (-1)}\n(0) -> {(0) (1)}\n(1) -> {(2) (3)}",
-    ),
+    ("x", LINE),
+    ("y", LONG),
+    ("double", MAP),
     ("torn", "(0) -> (0)  (1) -> (5)"),
     ("one", "(0) -> (0)"),
     ("far", "(0) -> {(0) (7) (9)}"),
     ("split", "(0) -> {(0) (2)}"),
     ("three", "(0) (1) (2)"),
-    ("a", "(-2) (1)"),
-    ("b", "(-4) (-3) (-2) (1) (2) (3)"),
+    ("a", OUTER),
+    ("b", LONG_OUTER),
     ("none", ""),
     ("same", "(0) -> (0)  (1) -> (1)"),
     ("gap", "(0) (2)"),

@@ -83,6 +83,26 @@ pub fn all_answer<R: Threads + Abort>(
     Ok(())
 }
 
+/// With ample memory a run ends with this status, and prints these texts to `out` and `err`.
+pub fn ends<R: Threads + Abort>(
+    rt: &R,
+    alloc: Global,
+    named: &[(&str, &str)],
+    words: &[&str],
+    wanted: Status,
+    texts: (&str, &str),
+) -> Result<(), Fail> {
+    let words = words_of(alloc, words)?;
+    let mut files = MemFiles::of(alloc, held(alloc, named)?, Vec::new(alloc));
+    let mut out = MemSink::of(alloc, Vec::new(alloc), 1000);
+    let mut err = MemSink::of(alloc, Vec::new(alloc), 1000);
+    let status = run(rt, alloc, &words, &mut files, &mut out, &mut err, &OpenGate);
+    assert_eq!(rt; err.bytes(), texts.1.as_bytes());
+    assert_eq!(rt; out.bytes(), texts.0.as_bytes());
+    assert!(rt; status == wanted, "{:?}", status);
+    Ok(())
+}
+
 /// With ample memory a run is done, and prints this.
 pub fn prints<R: Threads + Abort>(
     rt: &R,
@@ -91,14 +111,7 @@ pub fn prints<R: Threads + Abort>(
     words: &[&str],
     text: &str,
 ) -> Result<(), Fail> {
-    let words = words_of(alloc, words)?;
-    let mut files = MemFiles::of(alloc, held(alloc, named)?, Vec::new(alloc));
-    let mut out = MemSink::of(alloc, Vec::new(alloc), 1000);
-    let mut err = MemSink::of(alloc, Vec::new(alloc), 1000);
-    let status = run(rt, alloc, &words, &mut files, &mut out, &mut err, &OpenGate);
-    assert!(rt; status == Status::Done, "{:?}", status);
-    assert_eq!(rt; out.bytes(), text.as_bytes());
-    Ok(())
+    ends(rt, alloc, named, words, Status::Done, (text, ""))
 }
 
 /// The status of a run of a tool over one file.

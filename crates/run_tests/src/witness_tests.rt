@@ -1,5 +1,6 @@
 //! Runs that write a witness file, and what it holds then; and runs that test one.
 use crate::rows::{DONE, Row, held, words_of};
+use crate::texts::OF_EDGE;
 use all_tools::run;
 use faults::Status;
 use outside::{Files, MemFiles, MemSink, OpenGate};
@@ -16,14 +17,11 @@ const FILES: [(&str, &str); 5] = [
     ("wrong", WITHOUT_DUAL),
 ];
 
-// An edge relative to its ends, modulo 2 and modulo 3.
-const OF_EDGE: &str = "chomp witness 1\nmod 2\nclaim pair\n\
-     pair domain\nz 1: 1*2\nc 1: 1*2\nh 2:\nend\n";
-
+// The witness of the edge modulo 3.
 const BY_THREE: &str = "chomp witness 1\nmod 3\nclaim pair\n\
      pair domain\nz 1: 1*2\nc 1: 1*2\nh 2:\nend\n";
 
-// The same with a cocycle that is 0 on the cycle.
+// That modulo 2, but for the cocycle, which is 0 on the cycle.
 const WITHOUT_DUAL: &str = "chomp witness 1\nmod 2\nclaim pair\n\
      pair domain\nz 1: 1*2\nc 1:\nh 2:\nend\n";
 
