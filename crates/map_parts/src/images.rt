@@ -6,12 +6,12 @@ ghost use Rattle.chain_selector.specs.Selections.{is_kept, kept_image, Extends};
 ghost use Rattle.witness_parts.specs.Filed.{IsFiled};
 ghost use Rattle.map_parts.specs.Images.{AreFiledImages};
 
-use crate::filing::filed;
 use cell_complex::Numbered;
 use chain_selector::Selector;
 use chains::Chain;
 use field_mod::Field;
 use std::alloc::{AllocError as NoMemory, Global};
+use witness_parts::filed;
 
 // The image of the cell of the domain in this place.
 fn image_at<const P: u16>(

@@ -1,7 +1,6 @@
 //! The part of a map in a witness file, and the whole file of a map.
 #![tactic(auto)]
 
-mod filing;
 mod images;
 mod part;
 mod values;

@@ -15,7 +15,6 @@ ghost use Rattle.witness_parts.specs.Filed.{IsFiled, AreFiled};
 ghost use Rattle.witness_writing.specs.Runs.{value_in};
 ghost use Rattle.map_parts.specs.Values.{Carries, IsFiledContraction, AreFiledContractions};
 
-use crate::filing::filed;
 use acyclic_values::{Contraction, ValueFault, contract_value};
 use cell_complex::Numbered;
 use chains::Chain;
@@ -25,6 +24,7 @@ use elem_cubes::Cell;
 use field_mod::Field;
 use map_checks::value_at;
 use std::alloc::{AllocError as NoMemory, Global};
+use witness_parts::filed;
 
 // The contraction of a list of cells that is acyclic.
 fn contraction_of<const P: u16>(

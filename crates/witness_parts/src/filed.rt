@@ -15,7 +15,7 @@ use std::alloc::{AllocError as NoMemory, Global};
 
 /// A chain over the numbers of some cells, by the numbers in the file, which number more cells and
 /// count from 1.
-pub(crate) fn filed<const P: u16>(
+pub fn filed<const P: u16>(
     alloc: Global,
     field: Field<P>,
     chain: &Chain<P>,

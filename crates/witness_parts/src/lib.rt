@@ -5,5 +5,6 @@ mod filed;
 mod pair;
 mod witness;
 
+pub use filed::filed;
 pub use pair::pair_part;
 pub use witness::pair_witness;
