@@ -118,13 +118,15 @@ const ROWS: [Row; 10] = [
 // A line of a witness, counted from 1, what stands in its place, and what is told.
 type Change = (usize, &'static str, &'static str);
 
-const OF_THE_EDGE: [Change; 4] = [
+const OF_THE_EDGE: [Change; 5] = [
     (2, "mod 4\n", "line 2: Header"),
     (
         5,
         "z 1: 1*2 1*9999999999999999999999999999999999999999\n",
         "line 5: Cell",
     ),
+    // The same cycle twice.
+    (5, "z 1: 1*2\nz 1: 1*2\nc 1: 1*2\n", "line 7: Dual"),
     (7, "h 2: 1*2\n", "line 7: Cell"),
     (8, "end\n\n", "line 9: Text"),
 ];
@@ -138,6 +140,8 @@ const OF_THE_MAP: [Change; 62] = [
     (4, "", "line 4: Text"),
     (5, "", "line 5: Text"),
     (5, "z 1: 1*4 1*6\nz 1: 1*4 1*6\n", "line 8: Text"),
+    // With the cycle and its cocycle twice, the row of the matrix has two entries.
+    (5, "z 1: 1*4 1*6\nz 1: 1*4 1*6\nc 1: 1*4\n", "line 71: Text"),
     (5, "z 1: 1*6 1*4\n", "line 5: Text"),
     (5, "z 1: 1*4 2*6\n", "line 5: Text"),
     (5, "z 1:  1*4 1*6\n", "line 5: Text"),
@@ -183,8 +187,6 @@ const OF_THE_MAP: [Change; 62] = [
     (5, "z 1: 1*4\n", "line 5: Cycle"),
     (11, "z 1: 1*8\n", "line 11: Cycle"),
     (6, "c 1:\n", "line 6: Dual"),
-    // The same cycle twice.
-    (5, "z 1: 1*4 1*6\nz 1: 1*4 1*6\nc 1: 1*4\n", "line 7: Dual"),
     (5, "z 0: 1*5\nz 1: 1*4 1*6\nc 0: 1*5\n", "line 7: Cocycle"),
     // That of another edge is a cocycle too; then the contraction is not that of its projection.
     (6, "c 1: 1*6\n", "line 7: Contraction"),
