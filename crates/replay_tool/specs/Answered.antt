@@ -27,9 +27,9 @@ abbrev pub TellsTarget : (p : ℕ) → Claim p → Option AcceptedMap → Type 0
 TellsTarget p claim None = ⊥
 TellsTarget p claim (Some report) = (report.range ≡ claim.range.items)
     × IsFilled [] (λ k. AreRowsOf p (nth claim.matrices.items k)) (length claim.matrices.items)
-      report.matrices.items
+    report.matrices.items
     × IsFilled 0 (λ k. IsRankOf p (nth claim.matrices.items k)) (length claim.matrices.items)
-      report.ranks
+    report.ranks
 
 pub record TellsMap (p : ℕ) (claim : Claim p) (report : Accepted) : Type 0 where
   pub domain : report.domain ≡ claim.domain.items

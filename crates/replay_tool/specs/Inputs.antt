@@ -15,7 +15,6 @@ use Rattle.witness_limits.specs.Maps.{given_of_map}
 use Rattle.loading.specs.Steps.{Then, Is}
 use Rattle.loading.specs.Readings.{Reading, Finds}
 use Rattle.loading.specs.TwoSets.{two_names, two_bytes, AreTwoSetsIn, AreOperands}
-use Rattle.pair_maps.specs.declared.inputs.PairMap.{PairMap}
 use Rattle.pair_maps.specs.Inputs.{names_of, bytes_of, IsPairMapIn, IsFitting}
 use Rattle.replay_tool.specs.declared.inputs.ReplayFiles.{ReplayFiles}
 use Rattle.replay_tool.specs.declared.inputs.ReplayFiles.TheVariants as files
