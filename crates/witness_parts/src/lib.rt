@@ -1,10 +1,10 @@
 //! The parts of witness files, made of bases.
 #![tactic(auto)]
 
-mod filed;
+mod file_numbers;
 mod pair;
 mod witness;
 
-pub use filed::filed;
+pub use file_numbers::filed;
 pub use pair::pair_part;
 pub use witness::pair_witness;

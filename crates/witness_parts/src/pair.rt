@@ -11,7 +11,7 @@ ghost use Rattle.witness_parts.specs.Filed.{IsFiled, AreFiled, AddsCycles, AddsC
 ghost use Rattle.witness_parts.specs.Filed.{HasCycles, HasChains};
 ghost use Rattle.witness_parts.specs.Tables.{section_by, IsPartOf};
 
-use crate::filed::filed;
+use crate::file_numbers::filed;
 use cell_complex::Numbered;
 use chains::Chain;
 use cube_sets::CubeSet;

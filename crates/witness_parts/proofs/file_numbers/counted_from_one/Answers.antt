@@ -4,7 +4,7 @@ use Rattle.field_mod.proofs.Table.{two_le}
 use Rattle.chains.specs.Terms.{coefficient}
 use Rattle.witness_parts.specs.Filed.{from_one}
 use Rattle.witness_parts.proofs.Filing.{shifted_list}
-use Rattle.witness_parts.proofs.filed.counted_from_one.Goals as goal
+use Rattle.witness_parts.proofs.file_numbers.counted_from_one.Goals as goal
 
 pub returns : goal.returns
 returns g c =

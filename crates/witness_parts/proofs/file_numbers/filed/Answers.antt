@@ -4,7 +4,7 @@ use Rattle.chains.specs.Terms.{coefficient}
 use Rattle.cell_complex.specs.Numbering.{by_cell}
 use Rattle.witness_parts.specs.Filed.{IsFiled}
 use Rattle.witness_parts.proofs.Filing.{exact_none, filed as filed_is}
-use Rattle.witness_parts.proofs.filed.filed.Goals as goal
+use Rattle.witness_parts.proofs.file_numbers.filed.Goals as goal
 
 pub renumbered-requires : goal.renumbered-requires
 renumbered-requires g c = (
