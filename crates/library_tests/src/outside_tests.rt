@@ -147,14 +147,16 @@ fn gives<F: Files>(files: &mut F, name: &str, bytes: &[u8], at: usize) -> bool {
     }
 }
 
-// Whether a new file of the name takes the bytes in three pieces.
+// Whether a new file of the name takes the bytes in five pieces.
 fn takes<F: Files>(files: &mut F, name: &str, bytes: &[u8]) -> bool {
-    if bytes.len() < 65_537 {
+    if bytes.len() < 196_609 || bytes.len() > 262_145 {
         return false;
     }
     files.append(name, &bytes[..1], true).is_ok()
         && files.append(name, &bytes[1..65_537], false).is_ok()
-        && files.append(name, &bytes[65_537..], false).is_ok()
+        && files.append(name, &bytes[65_537..131_073], false).is_ok()
+        && files.append(name, &bytes[131_073..196_609], false).is_ok()
+        && files.append(name, &bytes[196_609..], false).is_ok()
 }
 
 #[test]

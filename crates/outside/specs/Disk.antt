@@ -22,6 +22,10 @@ pub record ReadsFrom (bytes : List ℕ) (at n : ℕ) (buf : List ℕ) : Type 0 w
   pub front : take (at + n) bytes ≡ take at bytes ++ take n buf
   pub end : n ≡ 0 → 0 < length buf → length bytes ≤ at
 
+-- The most bytes that one append takes.
+abbrev pub most_piece : ℕ
+most_piece = 65536
+
 -- What an append keeps of a file: nothing where it makes the file anew.
 abbrev pub kept : Bool → Disk → List ℕ → List ℕ
 kept first disk name = if first then [] else content disk name

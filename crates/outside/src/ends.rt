@@ -3,7 +3,7 @@
 ghost use Rattle.std.specs.Prelude.{◌≡◌, ◌≤◌, ◌^◌, List, ℕ, Option, length, ◌++◌, IfOk, OnOk, OnErr, IfSome, Result};
 ghost use Rattle.outside.specs.Told.{Told, Writes};
 ghost use Rattle.outside.specs.Causes.{HasCause, NoneFell, CountsBytes, CountsStalls};
-ghost use Rattle.outside.specs.Disk.{Disk, content, kept, Puts, MayPut, ReadsFrom};
+ghost use Rattle.outside.specs.Disk.{Disk, content, kept, most_piece, Puts, MayPut, ReadsFrom};
 ghost use Rattle.outside.specs.Seen.{Seen};
 ghost use Rattle.outside.specs.declared.ends.Failed.{Failed};
 
@@ -38,11 +38,12 @@ pub trait Files {
         ensures writes { NoneFell (seen self.old).write_faults (seen self.new).write_faults }
         ensures given { CountsBytes (seen self.old).given result (seen self.new).given };
 
-    /// Adds a piece at the end of a file, which is made where it is not there, or makes the file
-    /// anew with the piece. `Failed` comes only where `write_faults` of the name rose; the file
+    /// Adds a piece of at most 65,536 bytes at the end of a file, which is made where it is not
+    /// there, or makes the file anew with the piece. `Failed` comes only where `write_faults` of the name rose; the file
     /// then holds what it held, or what the call would have kept of it followed by a prefix of the
     /// piece. All other files stay in any case.
     fn append(&mut self, name: &str, piece: &[u8], first: bool) -> Result<(), Failed>
+        requires piece { length piece.now ≤ most_piece }
         ensures put { OnOk result (Told (seen self.old).holds (seen self.new).holds
             (λ before now. Puts name.now (kept first before name.now ++ piece.now) before now)) }
         ensures failed { OnErr result (Told (seen self.old).holds (seen self.new).holds
