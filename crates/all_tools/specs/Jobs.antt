@@ -21,6 +21,8 @@ use Rattle.pair_maps.specs.declared.inputs.MapFiles.{MapFiles}
 use Rattle.map_homology.specs.declared.map_job.MapJob.{MapJob}
 use Rattle.map_homology.specs.Jobs as map_homologies
 use Rattle.map_homology.proofs.Judging as of_map_homologies
+use Rattle.map_witness.specs.Jobs as map_witnesses
+use Rattle.map_witness.proofs.Judging as of_map_witnesses
 use Rattle.map_tools.specs.declared.values_job.ValuesJob.{ValuesJob}
 use Rattle.map_tools.specs.Jobs as maps
 use Rattle.map_tools.proofs.Judging as of_maps
@@ -145,8 +147,13 @@ judged_combination job = judged (sets.combination_job job) (of_sets.combination_
 abbrev judged_chain : ChainJob → Judged
 judged_chain job = judged (chains.chain_job job) (of_chains.chain_once job)
 
-abbrev judged_map : MapJob → Judged
-judged_map job = judged (map_homologies.map_job job) (of_map_homologies.map_once job)
+abbrev judged_map : MapJob → Option (List ℕ) → Judged
+judged_map job None = judged (map_homologies.map_job job) (of_map_homologies.map_once job)
+judged_map job (Some file) =
+    record {
+      task = map_witnesses.map_witness_task job file;
+      once = (of_map_witnesses.map_witness_once job file).once;
+    }
 
 abbrev judged_replay : ReplayJob → Judged
 judged_replay job =
@@ -154,7 +161,7 @@ judged_replay job =
 
 abbrev pub judged_by : ToolName → Request → Judged
 judged_by tools.Homcubes r = judged_pair (pair_of r) r.options.witness
-judged_by tools.MapHomology r = judged_map (map_of r)
+judged_by tools.MapHomology r = judged_map (map_of r) r.options.witness
 judged_by tools.Cubunion r = judged_combination (two_files Union r)
 judged_by tools.Cubinter r = judged_combination (two_files Intersection r)
 judged_by tools.Cubnbhd r = judged (sets.neighbours_job (x_of r)) (of_sets.neighbours_once (x_of r))

@@ -8,6 +8,7 @@ ghost use Rattle.set_tools.specs.Jobs.{combination_job, neighbours_job, cells_jo
 ghost use Rattle.chain_tool.specs.Jobs.{chain_job};
 ghost use Rattle.gen_tool.specs.Jobs.{holes_job};
 ghost use Rattle.map_homology.specs.Jobs.{map_job};
+ghost use Rattle.map_witness.specs.Jobs.{map_witness_task};
 ghost use Rattle.map_tools.specs.Jobs.{values_job};
 ghost use Rattle.replay_tool.specs.Jobs.{replay_job};
 
@@ -21,6 +22,7 @@ use gen_tool::generate;
 use loading::Answer;
 use map_homology::homology_of_map;
 use map_tools::check_map;
+use map_witness::witnessed_map;
 use outside::Files;
 use pair_tool::homology_of_pair;
 use pair_witness::witnessed_homology;
@@ -71,9 +73,20 @@ fn pair_alone<F: Files>(alloc: Global, files: &mut F, command: &Command) -> Resu
     alone(pair_answer(alloc, files, command))
 }
 
-// The matrices of a map, alone.
+// The matrices of a map, and its witness where one is wanted.
 fn map_output<F: Files>(alloc: Global, files: &mut F, command: &Command) -> Result<Output, Fault>
     ensures { Provides (task_by ToolName.MapHomology command.now)
+        (F.seen files.old) (F.seen files.new) result }
+{
+    match command.options().witness() {
+        Some(file) => map_witnessed(alloc, files, command, file),
+        None => map_alone(alloc, files, command),
+    }
+}
+
+// The matrices of a map with no witness.
+fn map_alone<F: Files>(alloc: Global, files: &mut F, command: &Command) -> Result<Output, Fault>
+    ensures { Provides (alone (map_job (map_of command.now)))
         (F.seen files.old) (F.seen files.new) result }
 {
     alone(map_answer(alloc, files, command))
@@ -242,6 +255,20 @@ fn map_answer<F: Files>(alloc: Global, files: &mut F, command: &Command) -> Resu
 {
     let job = map_job(alloc, command)?;
     homology_of_map(alloc, files, &job)
+}
+
+// The same with a witness of it.
+fn map_witnessed<F: Files>(
+    alloc: Global,
+    files: &mut F,
+    command: &Command,
+    file: &Name,
+) -> Result<Output, Fault>
+    ensures { Provides (map_witness_task (map_of command.now) file.now)
+        (F.seen files.old) (F.seen files.new) result }
+{
+    let job = map_job(alloc, command)?;
+    witnessed_map(alloc, files, &job, file)
 }
 
 // Whether a witness meets the laws, and what it shows.

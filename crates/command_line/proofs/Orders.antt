@@ -152,7 +152,7 @@ module _ (form : Row) (o : List (List ℕ)) (a b : List Setting) (p : SaySame a 
   fits_same true = once_same (are_once a) (are_once b) refl p.once
 
   agree_same : agree a ≡ agree b
-  agree_same = λ i. (nat_le (p.many i) 1 || not (p.alone i)) && not (cond (p.set Map i) (p.set Witness i) (p.set Matrix i || p.set Index i))
+  agree_same = λ i. (nat_le (p.many i) 1 || not (p.alone i)) && (p.set Map i || not (p.set Matrix i || p.set Index i))
 
   by_same : request_by form (of a) ≡ request_by form (of b)
   by_same =

@@ -226,22 +226,18 @@ abbrev pub are_once : List Setting → Bool
 are_once [] = true
 are_once (s ∷ ss) = not (is_set s.choice ss) && are_once ss
 
--- no other option stands beside one that stands alone, matrices and index matrices are those of a
--- map, and a witness is that of a pair
+-- no other option stands beside one that stands alone, and matrices and index matrices are those of
+-- a map
 abbrev pub has_alone : List Setting → Bool
 has_alone settings = list_any (λ s. stands_alone s.choice) settings
 
 abbrev pub asks_of_map : List Setting → Bool
 asks_of_map settings = is_set Matrix settings || is_set Index settings
 
-abbrev pub is_amiss : List Setting → Bool
-is_amiss settings =
-    if is_set Map settings then is_set Witness settings else asks_of_map settings
-
 abbrev pub agree : List Setting → Bool
 agree settings =
     (nat_le (length settings) 1 || not (has_alone settings))
-    && not (is_amiss settings)
+    && (is_set Map settings || not (asks_of_map settings))
 
 -- the form that the options choose: with a map it is that of maps, whose operands are the domain,
 -- its subset, the range and its subset

@@ -1,6 +1,6 @@
 //! What all words after a tool's name say.
 ghost use Rattle.std.specs.Prelude.{◌≡◌, ◌≤◌, length, true, OnOk};
-ghost use Rattle.command_line.specs.Forms.{Operand, Set, nothing_spoken, after, is_set, are_once, has_alone, asks_of_map, is_amiss, agree, fits};
+ghost use Rattle.command_line.specs.Forms.{Operand, Set, nothing_spoken, after, is_set, are_once, has_alone, asks_of_map, agree, fits};
 
 use crate::choice::{Choice, Setting};
 use crate::form::Form;
@@ -92,29 +92,19 @@ fn are_once(settings: &[Setting]) -> bool
     true
 }
 
-// Whether no other option stands beside one that stands alone, a map beside what is asked of it, and
-// no map beside a witness.
+// Whether no other option stands beside one that stands alone, and a map beside what is asked of
+// it.
 fn agree(settings: &[Setting]) -> bool
     ensures { result ≡ agree settings.now }
 {
-    (settings.len() <= 1 || !has_alone(settings)) && !is_amiss(settings)
+    (settings.len() <= 1 || !has_alone(settings))
+        && (is_set(Choice::Map, settings) || !asks_of_map(settings))
 }
 
 fn has_alone(settings: &[Setting]) -> bool
     ensures { result ≡ has_alone settings.now }
 {
     settings.iter().any(|setting| setting.choice.stands_alone())
-}
-
-// Whether a witness is asked of a map, or something of no map that maps alone have.
-fn is_amiss(settings: &[Setting]) -> bool
-    ensures { result ≡ is_amiss settings.now }
-{
-    if is_set(Choice::Map, settings) {
-        is_set(Choice::Witness, settings)
-    } else {
-        asks_of_map(settings)
-    }
 }
 
 // Whether something is asked that maps alone have.

@@ -92,11 +92,23 @@ pub fn ends<R: Threads + Abort>(
     wanted: Status,
     texts: (&str, &str),
 ) -> Result<(), Fail> {
-    let words = words_of(alloc, words)?;
     let mut files = MemFiles::of(alloc, held(alloc, named)?, Vec::new(alloc));
+    ends_over(rt, alloc, &mut files, words, wanted, texts)
+}
+
+/// The same over files that stay, with what the run writes to them.
+pub fn ends_over<R: Threads + Abort>(
+    rt: &R,
+    alloc: Global,
+    files: &mut MemFiles,
+    words: &[&str],
+    wanted: Status,
+    texts: (&str, &str),
+) -> Result<(), Fail> {
+    let words = words_of(alloc, words)?;
     let mut out = MemSink::of(alloc, Vec::new(alloc), 1000);
     let mut err = MemSink::of(alloc, Vec::new(alloc), 1000);
-    let status = run(rt, alloc, &words, &mut files, &mut out, &mut err, &OpenGate);
+    let status = run(rt, alloc, &words, files, &mut out, &mut err, &OpenGate);
     assert_eq!(rt; err.bytes(), texts.1.as_bytes());
     assert_eq!(rt; out.bytes(), texts.0.as_bytes());
     assert!(rt; status == wanted, "{:?}", status);

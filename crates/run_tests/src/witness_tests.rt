@@ -1,6 +1,6 @@
 //! Runs that write a witness file, and what it holds then; and runs that test one.
-use crate::rows::{DONE, Row, held, words_of};
-use crate::texts::OF_EDGE;
+use crate::rows::{DONE, Row, ends_over, held, words_of};
+use crate::texts::{LINE, LONG, LONG_OUTER, MAP, OF_EDGE, OUTER};
 use all_tools::run;
 use faults::Status;
 use outside::{Files, MemFiles, MemSink, OpenGate};
@@ -107,6 +107,66 @@ fn witness_files_are_written_and_tested(rt: HostRuntime) -> Result<(), Fail> {
         writes(&rt, rt.alloc(), row, name, text)?;
     }
     Ok(())
+}
+
+const PAIRS: [(&str, &str); 5] = [
+    ("map", MAP),
+    ("line", LINE),
+    ("outer", OUTER),
+    ("long", LONG),
+    ("long outer", LONG_OUTER),
+];
+
+const REPLAYED: [&str; 7] = ["replay", "w", "map", "line", "outer", "long", "long outer"];
+
+// A modulus, the report on the map modulo it, and what is told of its witness.
+const MODULI: [(&str, &str, &str); 2] = [
+    (
+        "2",
+        "domain\nH_0 = 0\nH_1 = Z_2\nrange\nH_0 = 0\nH_1 = Z_2\nmap\nF_0 rank 0\nF_1 rank 1\n",
+        "accepted\ndomain\nH_0 = 0\nH_1 = Z_2\nrange\nH_0 = 0\nH_1 = Z_2\n\
+         map\nF_0 rank 0\nF_1 rank 1\n",
+    ),
+    (
+        "5",
+        "domain\nH_0 = 0\nH_1 = Z_5\nrange\nH_0 = 0\nH_1 = Z_5\nmap\nF_0 rank 0\nF_1 rank 1\n",
+        "accepted\ndomain\nH_0 = 0\nH_1 = Z_5\nrange\nH_0 = 0\nH_1 = Z_5\n\
+         map\nF_0 rank 0\nF_1 rank 1\n",
+    ),
+];
+
+#[test]
+fn written_witnesses_are_accepted(rt: HostRuntime) -> Result<(), Fail> {
+    for (modulus, report, told) in &MODULI {
+        writes_and_replays(&rt, rt.alloc(), modulus, report, told)?;
+    }
+    Ok(())
+}
+
+// A witness of the map is written, and then tested over the same files.
+fn writes_and_replays<R: Threads + Abort>(
+    rt: &R,
+    alloc: Global,
+    modulus: &str,
+    report: &str,
+    told: &str,
+) -> Result<(), Fail> {
+    let mut files = MemFiles::of(alloc, held(alloc, &PAIRS)?, Vec::new(alloc));
+    let words = [
+        "homcubes",
+        "--map",
+        "map",
+        "line",
+        "outer",
+        "long",
+        "long outer",
+        "--mod",
+        modulus,
+        "--witness",
+        "w",
+    ];
+    ends_over(rt, alloc, &mut files, &words, Status::Done, (report, ""))?;
+    ends_over(rt, alloc, &mut files, &REPLAYED, Status::Done, (told, ""))
 }
 
 // The run answers as it has to, and the file then holds the text.

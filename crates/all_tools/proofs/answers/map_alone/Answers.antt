@@ -1,7 +1,7 @@
 use Rattle.map_homology.specs.Jobs.{map_job}
 use Rattle.tool.proofs.Lifting.{lifts}
 use Rattle.all_tools.specs.Jobs.{map_of}
-use Rattle.all_tools.proofs.answers.map_output.Goals as goal
+use Rattle.all_tools.proofs.answers.map_alone.Goals as goal
 
 pub returns : goal.returns
 returns g c =
