@@ -103,13 +103,37 @@ pub(crate) fn report_and_file<const P: u16>(
     let PairMap { map, x, a, y, b } = input;
     let mut selector = Selector::new(alloc, field, carrier)?;
     let all = matrices(
-        alloc, field, cycles, &domain.cells, basis, &range.cells, &mut selector,
+        alloc,
+        field,
+        cycles,
+        &domain.cells,
+        basis,
+        &range.cells,
+        &mut selector,
     )?;
     let printed = printed_on(
-        alloc, field, cycles, &domain.cells, basis, &range.cells, &all, wanted,
+        alloc,
+        field,
+        cycles,
+        &domain.cells,
+        basis,
+        &range.cells,
+        &all,
+        wanted,
     )?;
     let bytes = map_witness(
-        alloc, field, map, x, a, y, b, part, &range.cells, basis, &mut selector, all,
+        alloc,
+        field,
+        map,
+        x,
+        a,
+        y,
+        b,
+        part,
+        &range.cells,
+        basis,
+        &mut selector,
+        all,
     )?;
     let Printed {
         index,
