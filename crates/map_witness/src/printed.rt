@@ -6,7 +6,7 @@ ghost use Rattle.index_part.specs.Made.{TellsFault};
 ghost use Rattle.map_homology.specs.Bases.{AreBasesWith};
 ghost use Rattle.map_homology.specs.Right.{IsRightMap};
 ghost use Rattle.pair_maps.specs.Inputs.{IsFitting};
-ghost use Rattle.map_witness.specs.Bases.{IsPartOfCycles, IsPrintedOf};
+ghost use Rattle.map_witness.specs.Bases.{IsPartOfCycles, IsPrintedOf, IsInducedBy};
 ghost use Rattle.map_witness.specs.Refusals.{IsWithinLimits};
 ghost use Rattle.map_witness.specs.Witnesses.{IsFileOfMap};
 
@@ -73,33 +73,33 @@ fn printed_on<const P: u16>(
     })
 }
 
-/// The report on the map of a carrier in the cycles of bases of its pairs, and the bytes of its
-/// witness by the part of the domain in these cycles.
-pub(crate) fn report_and_file<const P: u16>(
+// What is printed on the map of a carrier in the cycles of bases of its pairs, and the bytes of its
+// witness by the part of the domain in these cycles.
+fn printed_and_file<const P: u16>(
     alloc: Global,
     field: Field<P>,
     input: &PairMap,
     carrier: Carrier<P>,
     part: &PairPart<P>,
-    domain: PairCells,
+    domain: &PairCells,
     cycles: &CycleBasis<P>,
-    range: PairCells,
+    range: &PairCells,
     basis: &Basis<P>,
     wanted: bool,
-) -> Result<(MapReport, Vec<u8>), Fault>
+) -> Result<(Printed, Vec<u8>), Fault>
     requires fits { IsFitting input.now }
     requires within { IsWithinLimits P input.now }
-    requires bases { AreBasesWith P wanted input.now carrier domain cycles.now range basis.now }
+    requires bases { AreBasesWith P wanted input.now carrier domain.now cycles.now range.now
+        basis.now }
     requires few { HaveFewEntries cycles.now basis.now carrier.dimension }
-    requires part { IsPartOfCycles P input.now domain.cells cycles.now part.now }
-    ensures report { IfOk result (λ made. IsRightMap P wanted input.now made.0) }
-    ensures file { IfOk result (λ made. IsFileOfMap P input.now made.0.domain.cycles
-        made.0.range.cycles made.0.matrices.items made.1.items) }
+    requires part { IsPartOfCycles P input.now domain.now.cells cycles.now part.now }
+    ensures made { IfOk result (λ made. IsInducedBy P wanted input.now carrier.entry
+        domain.now.cells cycles.now part.now range.now.cells basis.now made.0.index made.0.ranks
+        made.0.tables.items made.1.items) }
     ensures fault { IfErr result (λ fault. (IsTrue wanted
-        × TellsFault P domain.cells cycles.now range.cells basis.now fault)
+        × TellsFault P domain.now.cells cycles.now range.now.cells basis.now fault)
         ⊎ (fault ≡ Fault.OutOfMemory)) }
 {
-    let last = carrier.dimension();
     let PairMap { map, x, a, y, b } = input;
     let mut selector = Selector::new(alloc, field, carrier)?;
     let all = matrices(
@@ -134,6 +134,39 @@ pub(crate) fn report_and_file<const P: u16>(
         basis,
         &mut selector,
         all,
+    )?;
+    Ok((printed, bytes))
+}
+
+/// The report on the map of a carrier in the cycles of bases of its pairs, and the bytes of its
+/// witness by the part of the domain in these cycles.
+pub(crate) fn report_and_file<const P: u16>(
+    alloc: Global,
+    field: Field<P>,
+    input: &PairMap,
+    carrier: Carrier<P>,
+    part: &PairPart<P>,
+    domain: PairCells,
+    cycles: &CycleBasis<P>,
+    range: PairCells,
+    basis: &Basis<P>,
+    wanted: bool,
+) -> Result<(MapReport, Vec<u8>), Fault>
+    requires fits { IsFitting input.now }
+    requires within { IsWithinLimits P input.now }
+    requires bases { AreBasesWith P wanted input.now carrier domain cycles.now range basis.now }
+    requires few { HaveFewEntries cycles.now basis.now carrier.dimension }
+    requires part { IsPartOfCycles P input.now domain.cells cycles.now part.now }
+    ensures report { IfOk result (λ made. IsRightMap P wanted input.now made.0) }
+    ensures file { IfOk result (λ made. IsFileOfMap P input.now made.0.domain.cycles
+        made.0.range.cycles made.0.matrices.items made.1.items) }
+    ensures fault { IfErr result (λ fault. (IsTrue wanted
+        × TellsFault P domain.cells cycles.now range.cells basis.now fault)
+        ⊎ (fault ≡ Fault.OutOfMemory)) }
+{
+    let last = carrier.dimension();
+    let (printed, bytes) = printed_and_file(
+        alloc, field, input, carrier, part, &domain, cycles, &range, basis, wanted,
     )?;
     let Printed {
         index,
