@@ -1,0 +1,4 @@
+pub mod Limiting
+pub mod Judging
+pub mod Printing
+pub mod Computing
