@@ -1,5 +1,5 @@
 -- What is made of a map of pairs, as promised of the task.
-use Rattle.std.proofs.Common.{◌≡◌, ◌⊎◌, inl, inr, refl, ℕ, sym, ap, ◌∙◌, subst, List, Bool, Some, Result, Ok, Err, IfOk, IfErr}
+use Rattle.std.proofs.Common.{◌≡◌, ◌⊎◌, ℕ, sym, subst, List, Bool, Some, Ok, Err}
 use Rattle.field_mod.specs.Moduli.{IsModulus}
 use Rattle.faults.specs.declared.fault.Fault.{Fault}
 use Rattle.faults.specs.declared.fault.Fault.TheVariants.{OutOfMemory}
@@ -24,15 +24,15 @@ module _ (p : ℕ) (shown : Shown) (wanted : Bool) (file : List ℕ) (m : PairMa
     fault = subst (λ (q : ℕ). RefusesMapWitness q wanted m fault ⊎ (fault ≡ OutOfMemory)) (sym (of_table p is_modulus)) r;
   }
 
-  pub task_done : (report : MapReport) (bytes text : List ℕ) (written : Written) → shown.modulus ≡ p → IsWitnessedMap p wanted m report bytes → IsAllowed (RefusesMapWitness p wanted) m
-      → text ≡ report_text (Map report) shown → written ≡ record { text = text; file = Some (whole file bytes) } → Produces (RefusesMapWitness (modulus_of p) wanted) (IsWritten shown wanted file) m (Ok written)
-  task_done report bytes text written e w none is made = record {
+  pub task_done : (report : MapReport) (bytes : List ℕ) (written : Written) → shown.modulus ≡ p → IsWitnessedMap p wanted m report bytes → IsAllowed (RefusesMapWitness p wanted) m
+      → written.text ≡ report_text (Map report) shown → written.file ≡ Some (whole file bytes) → Produces (RefusesMapWitness (modulus_of p) wanted) (IsWritten shown wanted file) m (Ok written)
+  task_done report bytes written e w none told filed = record {
     right = (
       report,
       bytes,
       subst (λ (q : ℕ). IsWitnessedMap q wanted m report bytes) (sym e) w,
-      ap (λ (v : Written). v.text) made ∙ is,
-      ap (λ (v : Written). v.file) made,
+      told,
+      filed,
     );
     allowed = subst (λ (q : ℕ). IsAllowed (RefusesMapWitness q wanted) m) (sym (of_table p is_modulus)) none;
     fault = tt;

@@ -1,5 +1,5 @@
 -- The jobs of this crate are judged in one way.
-use Rattle.std.proofs.Common.{◌≡◌, ◌≢◌, ◌<◌, ◌≤◌, ◌⊎◌, inl, inr, ⊎_elim, ℕ, List, refl, sym, ap, ◌∙◌, arith, Bool}
+use Rattle.std.proofs.Common.{◌≡◌, ◌≢◌, ◌⊎◌, inl, inr, ⊎_elim, ℕ, List, refl, sym, ap, ◌∙◌, arith, Bool}
 use Rattle.std.proofs.lemmas.Bool.{cases_lt}
 use Rattle.field_mod.specs.Moduli.{IsModulus}
 use Rattle.field_mod.proofs.Table.{is_field}
@@ -12,7 +12,7 @@ use Rattle.loading.specs.Jobs.{IsAllowed, HasOneJudgement}
 use Rattle.loading.proofs.Judging.{judged_once}
 use Rattle.pair_maps.specs.declared.inputs.PairMap.{PairMap}
 use Rattle.pair_maps.specs.Moduli.{modulus_of}
-use Rattle.pair_maps.specs.Refusals.{most_cells, RefusesPairMap}
+use Rattle.pair_maps.specs.Refusals.{most_cells}
 use Rattle.pair_maps.proofs.Files.{map_of_files}
 use Rattle.pair_maps.proofs.Judging as pairs
 use Rattle.pair_maps.proofs.Moduli.{modulus_listed}

@@ -14,7 +14,7 @@ use Rattle.induced_map.specs.Pairs.{nth_by_cell}
 use Rattle.induced_map.specs.Matrices.{IsMatrixOf, nth}
 use Rattle.map_checks.specs.Carriers.{Carrying, AreOfOneDimension}
 use Rattle.pair_maps.specs.declared.inputs.PairMap.{PairMap}
-use Rattle.pair_maps.specs.Inputs.{domain_of, range_of, dimension_of_map}
+use Rattle.pair_maps.specs.Inputs.{domain_of, range_of}
 use Rattle.pair_maps.specs.Refusals.{IsCarrierOf}
 use Rattle.index_part.specs.Filled.{IsFilled}
 use Rattle.index_part.specs.Tables.{IsRowOf, AreRowsOf}

@@ -100,6 +100,8 @@ fn printed_and_file<const P: u16>(
         × TellsFault P domain.now.cells cycles.now range.now.cells basis.now fault)
         ⊎ (fault ≡ Fault.OutOfMemory)) }
 {
+    // Its clauses say how large a dimension may be.
+    let _last = carrier.dimension();
     let PairMap { map, x, a, y, b } = input;
     let mut selector = Selector::new(alloc, field, carrier)?;
     let all = matrices(

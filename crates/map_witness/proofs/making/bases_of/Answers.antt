@@ -1,4 +1,4 @@
-use Rattle.std.proofs.Common.{refl, sym, subst}
+use Rattle.std.proofs.Common.{sym, subst, arith}
 use Rattle.homology_basis.specs.Bases.{CyclesOfLog}
 use Rattle.map_homology.specs.Bases.{IsBasisOfPair}
 use Rattle.map_witness.proofs.Limiting.{counted_few}

@@ -5,6 +5,8 @@ use Rattle.map_checks.specs.Carriers.{Carrying}
 use Rattle.induced_map.specs.Matrices.{ArePairsOfMap, HaveFewEntries, IsMatrixOf, nth}
 use Rattle.index_map.specs.Pairs.{AreSized}
 use Rattle.map_homology.proofs.Inducing.{pairs_of_map, included_pairs, sized}
+use Rattle.witness_types.specs.Inputs.{IsWithinTables}
+use Rattle.map_parts.specs.Maps.{given_map}
 use Rattle.map_witness.specs.Bases.{IsPrintedOf}
 use Rattle.map_witness.proofs.Printing.{carrying_of, domain_part_of}
 use Rattle.map_witness.proofs.printed.printed_and_file.Goals as goal
@@ -50,7 +52,8 @@ map_witness-requires g c =
     let all = c.in_ok-all.all.items in
     let carrying = c.in_ok-selector.ensures.carrier in
     let count : c.in_ok-all.all.len ≡ length all = omega (arith, c.in_ok-all.all.ok.0) in
-    let limits = record { domain = c.requires.within.small.domain; range = c.requires.within.small.range; carrier = c.requires.within.size } in
+    let m = c.args.input.now in
+    let limits : IsWithinTables (given_map m.map m.x m.a m.y m.b) = record { domain = c.requires.within.small.domain; range = c.requires.within.small.range; carrier = c.requires.within.size } in
     let carried = carrying_of g.row.P c.args.input.now c.args.carrier c.matrices.new.selector.carrying c.requires.bases.bases.carrier (c.matrices.ensures.extends.carrying ∙ c.in_ok-selector.ensures.carrier) in
     let domain = domain_part_of g.row.P c.args.input.now c.args.carrier c.args.domain.now c.args.range.now c.args.basis.now c.args.field.listed c.requires.fits.alike c.args.cycles.now c.args.part.now all c.requires.bases.bases c.requires.part
     (subst (λ (s : Carrying). length all ≡ s.dimension + 1) carrying (let e = c.in_ok-all.ensures.count in omega (arith, e, count)))
