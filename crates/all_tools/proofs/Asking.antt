@@ -1,13 +1,12 @@
 -- From what words are due to what a run answers on them.
-use Rattle.std.proofs.Common.{◌≡◌, ℕ, List, Result, Ok, Err, IfErr, sym, subst, ◌⊎◌, inl, inr, refl}
+use Rattle.std.proofs.Common.{◌≡◌, Result, Ok, Err, IfErr, sym, subst, inl, inr, refl}
 use Rattle.outside.specs.Seen.{Seen}
 use Rattle.faults.specs.declared.fault.Fault.{Fault}
-use Rattle.faults.specs.declared.fault.Fault.TheVariants.{OutOfMemory}
 use Rattle.command_line.specs.Words.{Request, IsDue}
 use Rattle.loading.specs.Jobs.{IsRefusedWith}
 use Rattle.loading.specs.Refused.{refused_job}
 use Rattle.loading.proofs.Refused.{refusal, refused_only}
-use Rattle.tool.specs.Tasks.{Task, Written, Provides}
+use Rattle.tool.specs.Tasks.{Written, Provides}
 use Rattle.tool.proofs.Lifting.{lifts, no_memory_for}
 use Rattle.all_tools.specs.Jobs.{task_of}
 use Rattle.all_tools.specs.Lines.{asked_task}

@@ -9,7 +9,7 @@ use Rattle.loading.specs.Readings.{reading}
 use Rattle.loading.specs.Jobs.{IsJudged, RestsOn, Leaves}
 use Rattle.witness_delivery.specs.Delivery.{HoldsFile}
 use Rattle.tool.specs.Tasks.{IsTaskAnswer, Written}
-use Rattle.tool.specs.Ends.{Says, ReadFailed, WriteFailed, StopsAt, OthersStay, EndsAs}
+use Rattle.tool.specs.Ends.{Says, ReadFailed, WriteFailed, StopsAt, EndsAs}
 use Rattle.all_tools.specs.Lines.{asked}
 use Rattle.all_tools.proofs.Asking.{refused_words}
 use Rattle.all_tools.proofs.running.run.Goals as goal
