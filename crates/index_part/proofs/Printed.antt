@@ -10,7 +10,7 @@ use Rattle.chains.proofs.TermLists.{coefficient-above}
 use Rattle.cell_complex.specs.Numbering.{IsListing, by_cell, cell_coefficient, cell_terms}
 use Rattle.basis_reports.proofs.Printing.{ordered, reduced}
 use Rattle.index_part.specs.Refusals.{IsPrintedChain}
-use Rattle.index_part.proofs.Terms.{terms_by_cell}
+use Rattle.basis_reports.proofs.Terms.{terms_by_cell}
 
 module _ (p : ℕ) (test : List Factor → Bool) (cells : List (List Factor)) (listing : IsListing test cells) (sorted : IsStrictlySortedBy cell_cmp cells) (ts : List (ℕ × ℕ)) (normal : IsNormalWithin p 0 (length cells) ts) where
   pub printed_chain : IsPrintedChain p (cell_terms cells ts)

@@ -1,5 +1,5 @@
 -- Bases of the homology of the two pairs of a map, by the numbers of their relative cells.
-use Rattle.std.specs.Prelude.{◌≡◌, ℕ, ◌+◌, List, length, Bool, true, false, Option, Some, None}
+use Rattle.std.specs.Prelude.{◌≡◌, ℕ, ◌+◌, ◌<◌, List, [], length, Bool, true, false, Option, Some, None}
 use Rattle.elem_cubes.specs.Cells.{Factor}
 use Rattle.algebraic_reduction.specs.Laws.{NothingLeft}
 use Rattle.algebraic_reduction.specs.LogWords.{Reduced}
@@ -16,7 +16,10 @@ use Rattle.report.specs.declared.pair.PairReport.{PairReport}
 use Rattle.report.specs.declared.index_part.IndexPart.{IndexPart}
 use Rattle.index_map.specs.Inclusion.{IsIncluded, IsInvertibleInclusion}
 use Rattle.index_map.specs.Pairs.{IsIncludedPair}
+use Rattle.index_part.specs.Filled.{IsFilled}
 use Rattle.index_part.specs.Made.{IsIndexPart}
+use Rattle.index_part.specs.Tables.{AreRowsOf, IsRankOf}
+use Rattle.induced_map.specs.Matrices.{IsMatrixOf, nth}
 use Rattle.map_homology.specs.declared.bases.PairCells.{PairCells}
 
 -- the cells of the pair of x and a, with its counts, and a log of its complex that leaves no
@@ -68,6 +71,22 @@ IsIndexAsMade p wanted domain_cells A range_cells B induced (Some part) =
     (wanted ≡ true) × IsIndexPart p domain_cells A range_cells B induced part
     × ((x a y b : List (List Factor)) → IsIncludedPair p x a y b domain_cells A range_cells B
     → (k : ℕ) → IsInvertibleInclusion p x a y b k)
+
+-- from degree 0 to the dimension of the map the matrices of every chain map that c carries, in the
+-- cycles of these bases
+pub record AreMatricesOf (p : ℕ) (c : Carrying) (domain_cells : List (List Factor))
+    (A : CyclesOfLog) (range_cells : List (List Factor)) (B : BasisOfLog) (all : List Table)
+    : Type 0 where
+  pub count : length all ≡ c.dimension + 1
+  pub each : (k : ℕ) → k < length all → IsMatrixOf p c domain_cells A range_cells B k (nth all k)
+
+-- what is printed on these matrices: the index part where it is wanted, the ranks and the rows
+pub record IsPrintedOf (p : ℕ) (wanted : Bool) (domain_cells : List (List Factor))
+    (A : CyclesOfLog) (range_cells : List (List Factor)) (B : BasisOfLog) (all : List Table)
+    (index : Option IndexPart) (ranks : List ℕ) (tables : List (List (List ℕ))) : Type 0 where
+  pub index_part : IsIndexAsMade p wanted domain_cells A range_cells B all index
+  pub ranks_of : IsFilled 0 (λ k. IsRankOf p (nth all k)) (length all) ranks
+  pub tables_of : IsFilled [] (λ k. AreRowsOf p (nth all k)) (length all) tables
 
 -- the report has the dimensions and the cycles of the basis, with the cells in place of their
 -- numbers, by degree from 0 to n, and the counts of the pair

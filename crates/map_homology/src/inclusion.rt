@@ -30,7 +30,7 @@ pub fn test_inclusion(input: &PairMap, wanted: bool) -> Result<(), Fault>
 }
 
 /// The index part of some induced matrices where it is wanted.
-pub fn index_of<const P: u16>(
+pub(crate) fn index_of<const P: u16>(
     alloc: Global,
     field: Field<P>,
     domain: &CycleBasis<P>,

@@ -10,14 +10,12 @@ ghost use Rattle.map_homology.specs.Reported.{IsReported};
 
 use crate::bases::{PairCells, domain_basis, range_basis};
 use crate::entries::test_entries;
-use crate::inclusion::{index_of, test_inclusion};
+use crate::inclusion::test_inclusion;
 use crate::parts::part_of;
-use chain_selector::Selector;
+use crate::tables::{Induced, Printed, induce};
 use faults::Fault;
 use field_mod::Field;
 use homology_basis::{Basis, CycleBasis};
-use index_part::{ranks_of, tables_of};
-use induced_map::matrices;
 use map_checks::Carrier;
 use pair_maps::{PairMap, carrier_of};
 use report::MapReport;
@@ -66,28 +64,19 @@ fn report_of<const P: u16>(
         ⊎ (fault ≡ Fault.OutOfMemory)) }
 {
     let last = carrier.dimension();
-    let mut selector = Selector::new(alloc, field, carrier)?;
-    let all = matrices(
-        alloc,
-        field,
-        cycles,
-        &domain.cells,
-        basis,
-        &range.cells,
-        &mut selector,
+    let made = induce(
+        alloc, field, carrier, &domain, cycles, &range, basis, wanted,
     )?;
-    let index = index_of(
-        alloc,
-        field,
-        cycles,
-        &domain.cells,
-        basis,
-        &range.cells,
-        &all,
-        wanted,
-    )?;
-    let ranks = ranks_of(alloc, field, &all)?;
-    let tables = tables_of(alloc, &all)?;
+    let Induced {
+        matrices: _,
+        selector: _,
+        printed,
+    } = made;
+    let Printed {
+        index,
+        ranks,
+        tables,
+    } = printed;
     let domain = part_of(alloc, domain, cycles, last)?;
     let range = part_of(alloc, range, basis, last)?;
     Ok(MapReport {

@@ -31,30 +31,3 @@ pub record AreBasesMade (p : ℕ) (m : PairMap) (domain : PairCells) (A : Cycles
   pub of_domain : IsBasisOfPair p m.x.cells m.a.cells domain A
   pub of_range : IsBasisOfPair p m.y.cells m.b.cells range (cycles_alone B)
   pub of_part : IsPartOfCycles p m domain.cells A part
-
--- what is printed on these matrices: the index part where it is wanted, the ranks and the rows
-pub record IsPrintedOf (p : ℕ) (wanted : Bool) (domain_cells : List (List Factor))
-    (A : CyclesOfLog) (range_cells : List (List Factor)) (B : BasisOfLog) (all : List Table)
-    (index : Option IndexPart) (ranks : List ℕ) (tables : List (List (List ℕ))) : Type 0 where
-  pub index_part : IsIndexAsMade p wanted domain_cells A range_cells B all index
-  pub ranks_of : IsFilled 0 (λ k. IsRankOf p (nth all k)) (length all) ranks
-  pub tables_of : IsFilled [] (λ k. AreRowsOf p (nth all k)) (length all) tables
-
--- from degree 0 to the dimension of the map the matrices of every chain map that c carries, in the
--- cycles of these bases
-pub record AreMatricesOf (p : ℕ) (c : Carrying) (domain_cells : List (List Factor))
-    (A : CyclesOfLog) (range_cells : List (List Factor)) (B : BasisOfLog) (all : List Table)
-    : Type 0 where
-  pub count : length all ≡ c.dimension + 1
-  pub each : (k : ℕ) → k < length all → IsMatrixOf p c domain_cells A range_cells B k (nth all k)
-
--- what is printed on such matrices, and a witness of the map with these and with the part of the
--- domain
-pub record IsInducedBy (p : ℕ) (wanted : Bool) (m : PairMap) (c : Carrying)
-    (domain_cells : List (List Factor)) (A : CyclesOfLog) (part : PairPart p)
-    (range_cells : List (List Factor)) (B : BasisOfLog) (index : Option IndexPart) (ranks : List ℕ)
-    (tables : List (List (List ℕ))) (bytes : List ℕ) : Type 0 where
-  pub all : List Table
-  pub matrices : AreMatricesOf p c domain_cells A range_cells B all
-  pub printed : IsPrintedOf p wanted domain_cells A range_cells B all index ranks tables
-  pub witness : IsMapWitness p m.map m.x m.a m.y m.b part range_cells B all bytes

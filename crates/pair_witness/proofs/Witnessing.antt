@@ -21,7 +21,7 @@ use Rattle.witness_parts.specs.Witnesses as parts
 use Rattle.pair_witness.specs.declared.bases.PairBasis.{PairBasis}
 use Rattle.pair_witness.specs.Bases.{IsBasisOfReport}
 use Rattle.pair_witness.specs.Witnesses.{AreTheCycles, IsPairWitness, witness_bytes}
-use Rattle.pair_witness.proofs.Terms.{terms_by_cell}
+use Rattle.basis_reports.proofs.Terms.{terms_by_cell}
 
 -- a basis without its cocycles
 abbrev pub cycles_alone : BasisOfLog → CyclesOfLog
