@@ -19,6 +19,9 @@ work="$(mktemp -d)"
 trap 'rm -rf "$work"' EXIT
 bad=0
 
+# The files of a map from the ring to itself; an empty file is the empty set.
+map="examples/turn.txt examples/ring.txt /dev/null examples/ring.txt /dev/null"
+
 # Runs of each tool, and of refusals.
 runs=(
     "homcubes examples/ring.txt"
@@ -37,7 +40,23 @@ runs=(
     "cubunion examples/ring.txt examples/absent.txt"
     "homcubes --mod 4 examples/ring.txt"
     "cubdiff"
+    "gen holes 2"
+    "gen holes 2 --set"
+    "chkmvmap examples/turn.txt examples/ring.txt examples/ring.txt"
+    "homcubes --map $map --mod 3 --matrix"
+    "homcubes --map $map --index --stats"
+    "homcubes examples/ring.txt --witness $work/written"
+    "homcubes --map $map --witness $work/written"
+    "replay $work/pair examples/ring.txt"
+    "replay $work/map $map"
+    "replay examples/ring.txt examples/ring.txt"
 )
+
+# The witnesses that these runs test.
+make_witnesses() {
+    "$program" homcubes examples/ring.txt --witness "$work/pair" >"$work/out" &&
+        read -ra list <<<"$map" && "$program" homcubes --map "${list[@]}" --witness "$work/map" >"$work/out"
+}
 
 make_refusing_library() {
     cc -O1 -shared -fPIC -x c -o "$work/refusing.so" - <<'C'
@@ -88,9 +107,9 @@ wrong() {
     sed 's/^/    err: /' "$work/err" | head -5
 }
 
-# Each refused call gives the same answer, status 6 with its line alone, or status 4 where the system had no memory for a file.
+# Each refused call gives the same answer, status 6 with its line alone, or status 4 or 5 where the system had no memory for a file.
 check_program() {
-    local words="$1" list call calls wanted memory=0 unread=0 same=0
+    local words="$1" list call calls wanted memory=0 unread=0 unwritten=0 same=0
     read -ra list <<<"$words"
     refusing 0 "$program" "${list[@]}"
     wanted="$status"
@@ -105,11 +124,13 @@ check_program() {
             same=$((same + 1))
         elif [ "$status" = 4 ] && [ ! -s "$work/out" ] && grep -q '^error: cannot read ' "$work/err"; then
             unread=$((unread + 1))
+        elif [ "$status" = 5 ] && [ ! -s "$work/out" ] && grep -q '^error: cannot write ' "$work/err"; then
+            unwritten=$((unwritten + 1))
         else
             wrong "$words" "$call"
         fi
     done
-    echo "$words: status $wanted; $calls calls refused in turn: $memory out of memory, $unread failed reads, $same the same answer"
+    echo "$words: status $wanted; $calls calls refused in turn: $memory out of memory, $unread failed reads, $unwritten failed writes, $same the same answer"
 }
 
 # A test passes, or ends with the error of its own want of memory.
@@ -156,6 +177,7 @@ cd "$here" || exit 2
 case "${1:-}" in
     "")
         need "$program"
+        make_witnesses || { echo "no witness was written" >&2; exit 2; }
         for words in "${runs[@]}"; do
             check_program "$words"
         done
