@@ -1,17 +1,11 @@
 -- Bases of the pairs of a map, and what is made of them.
-use Rattle.std.specs.Prelude.{◌≡◌, ℕ, ◌+◌, ◌<◌, List, [], length, Bool, Option}
+use Rattle.std.specs.Prelude.{◌≡◌, ℕ, List}
 use Rattle.elem_cubes.specs.Cells.{Factor}
 use Rattle.homology_basis.specs.Bases.{BasisOfLog, CyclesOfLog, IsBasisWithContraction}
-use Rattle.induced_map.specs.Matrices.{IsMatrixOf, nth}
-use Rattle.index_part.specs.Filled.{IsFilled}
-use Rattle.index_part.specs.Tables.{AreRowsOf, IsRankOf}
-use Rattle.leray_conley.specs.Tables.{Table}
 use Rattle.map_homology.specs.declared.bases.PairCells.{PairCells}
-use Rattle.map_homology.specs.Bases.{IsBasisOfPair, IsIndexAsMade, cycles_alone}
-use Rattle.map_checks.specs.Carriers.{Carrying}
-use Rattle.map_parts.specs.Maps.{top_of_map, IsMapWitness}
+use Rattle.map_homology.specs.Bases.{IsBasisOfPair, cycles_alone}
+use Rattle.map_parts.specs.Maps.{top_of_map}
 use Rattle.pair_maps.specs.declared.inputs.PairMap.{PairMap}
-use Rattle.report.specs.declared.index_part.IndexPart.{IndexPart}
 use Rattle.witness_parts.specs.Tables.{section_by, IsPartOf}
 use Rattle.witness_types.specs.declared.part.PairPart.{PairPart}
 

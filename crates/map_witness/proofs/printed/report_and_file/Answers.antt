@@ -1,4 +1,4 @@
-use Rattle.std.proofs.Common.{inr, refl, ℕ, ◌∙◌, subst, arith}
+use Rattle.std.proofs.Common.{inr, refl, ℕ, subst, arith}
 use Rattle.std.proofs.lemmas.Result.{err_from_is_err_and}
 use Rattle.map_homology.specs.Bases.{IsPartOf, cycles_alone}
 use Rattle.map_homology.proofs.Basing.{names}
