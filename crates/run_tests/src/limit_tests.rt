@@ -1,5 +1,5 @@
 //! Each limit at its number and one past it.
-use crate::rows::status_over;
+use crate::rows::{held, status_over, status_with};
 use faults::Status;
 use outside::put_number;
 use std::alloc::Global;
@@ -89,6 +89,42 @@ fn the_limit_of_cells_of_a_witness_is_exact(rt: HostRuntime) -> Result<(), Fail>
             "row",
             text,
         )?;
+        assert_eq!(rt; status, wanted);
+    }
+    Ok(())
+}
+
+// A map that sends one edge to a row of so many, the edge, the row, and an empty file.
+fn onto_a_row(alloc: Global, count: u32) -> Result<Vec<(String, Vec<u8>)>, Fail> {
+    let row = edges(alloc, count)?;
+    let mut map = Vec::from_slice(alloc, b"(0) -> {")?;
+    map.extend_from_slice(&row)?;
+    map.push(b'}')?;
+    let mut files = held(alloc, &[("edge", "(0)"), ("none", "")])?;
+    files.push((String::from_str(alloc, "map")?, map))?;
+    files.push((String::from_str(alloc, "row")?, row))?;
+    Ok(files)
+}
+
+// The edge and both its ends have the row for their value: three times 2,363 times 2,363 is below
+// the limit, and three times 2,365 times 2,365 above it.
+#[test]
+fn the_limit_of_values_with_a_witness_is_kept(rt: HostRuntime) -> Result<(), Fail> {
+    let alloc = rt.alloc();
+    let words = [
+        "homcubes",
+        "--map",
+        "map",
+        "edge",
+        "none",
+        "row",
+        "none",
+        "--witness",
+        "w",
+    ];
+    for (count, wanted) in [(1181, Status::Done), (1182, Status::Limit)] {
+        let files = onto_a_row(alloc, count)?;
+        let status = status_with(&rt, alloc, &words, files)?;
         assert_eq!(rt; status, wanted);
     }
     Ok(())

@@ -134,10 +134,20 @@ pub fn status_over<R: Threads>(
     name: &str,
     text: Vec<u8>,
 ) -> Result<Status, Fail> {
+    let mut named = Vec::new(alloc);
+    named.push((String::from_str(alloc, name)?, text))?;
+    status_with(rt, alloc, words, named)
+}
+
+/// The status of a run of a tool over files of these names and bytes.
+pub fn status_with<R: Threads>(
+    rt: &R,
+    alloc: Global,
+    words: &[&str],
+    named: Vec<(String, Vec<u8>)>,
+) -> Result<Status, Fail> {
     let words = words_of(alloc, words)?;
-    let mut held = Vec::new(alloc);
-    held.push((String::from_str(alloc, name)?, text))?;
-    let mut files = MemFiles::of(alloc, held, Vec::new(alloc));
+    let mut files = MemFiles::of(alloc, named, Vec::new(alloc));
     let mut out = MemSink::of(alloc, Vec::new(alloc), 1_000_000);
     let mut err = MemSink::of(alloc, Vec::new(alloc), 1000);
     Ok(run(rt, alloc, &words, &mut files, &mut out, &mut err, &OpenGate))
