@@ -39,9 +39,9 @@ pub trait Files {
         ensures given { CountsBytes (seen self.old).given result (seen self.new).given };
 
     /// Adds a piece of at most 65,536 bytes at the end of a file, which is made where it is not
-    /// there, or makes the file anew with the piece. `Failed` comes only where `write_faults` of the name rose; the file
-    /// then holds what it held, or what the call would have kept of it followed by a prefix of the
-    /// piece. All other files stay in any case.
+    /// there, or makes the file anew with the piece. `Failed` comes only where `write_faults` of
+    /// the name rose; the file then holds what it held, or what the call would have kept of it
+    /// followed by a prefix of the piece. All other files stay in any case.
     fn append(&mut self, name: &str, piece: &[u8], first: bool) -> Result<(), Failed>
         requires piece { length piece.now ≤ most_piece }
         ensures put { OnOk result (Told (seen self.old).holds (seen self.new).holds
